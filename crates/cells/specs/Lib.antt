@@ -1,0 +1,5 @@
+pub mod Alphabet
+pub mod Scale
+pub mod When
+pub mod Letters
+pub mod Bands
