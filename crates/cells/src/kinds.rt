@@ -4,7 +4,7 @@ ghost use mathlib.Core.Bool.{Bool, false};
 ghost use Rattle.std.specs.declared.option.Option.{Option};
 ghost use Rattle.std.specs.declared.option.Option.the-variants.{Some, None};
 
-// A cell is one place of a keyword. It admits some symbols and no others.
+/// A cell is one place of a keyword. It admits some symbols and no others.
 pub trait Cell: Copy {
     // what arrives
     type Sample: Copy;

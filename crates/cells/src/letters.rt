@@ -6,14 +6,14 @@ ghost use Rattle.cells.specs.Alphabet.{is-letter};
 pub mod admitting;
 pub mod making;
 
-// A letter, A to P: the symbol of one byte.
+/// A letter, A to P: the symbol of one byte.
 #[derive(Clone, Copy)]
 pub struct Letter {
     byte: u8,
     ghost ok: { is-letter byte ≡ true },
 }
 
-// A letter cell admits its own letter only.
+/// A letter cell admits its own letter only.
 #[derive(Clone, Copy)]
 pub struct LetterCell {
     letter: Letter,

@@ -30,7 +30,7 @@ pub enum Refusal {
 }
 
 impl Refusal {
-    // The number in the refusal table.
+    /// The number in the refusal table.
     pub fn number(self) -> u8
         ensures { λ r. ⌜ r ≡ number-of self ⌝ }
     {

@@ -11,7 +11,7 @@ ghost use Rattle.cells.specs.Bands.{reading-of, bounds-of, inside};
 const HIGHEST: u16 = 9999;
 
 impl Reading {
-    // The reading of a sample, if both numbers are on the scale.
+    /// The reading of a sample, if both numbers are on the scale.
     pub fn new(sample: Gauges) -> Option<Reading>
         ensures { λ r. ⌜ r ≡ reading-of sample ⌝ }
     {
@@ -37,7 +37,7 @@ impl Reading {
 }
 
 impl Bounds {
-    // The bounds from one value to another; BadBounds where they are no bounds.
+    /// The bounds from one value to another; BadBounds where they are no bounds.
     pub fn new(lowest: u16, highest: u16) -> Result<Bounds, Refusal>
         ensures { λ r. ⌜ r ≡ bounds-of lowest highest ⌝ }
     {
@@ -48,7 +48,7 @@ impl Bounds {
         }
     }
 
-    // Whether a number lies inside, ends counted.
+    /// Whether a number lies inside, ends counted.
     pub fn hold(self, number: u16) -> bool
         ensures { λ r. ⌜ r ≡ inside self number ⌝ }
     {

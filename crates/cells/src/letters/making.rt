@@ -11,7 +11,7 @@ const FIRST: u8 = b'A';
 const LAST: u8 = b'P';
 
 impl Letter {
-    // The letter of a byte, if the byte is one.
+    /// The letter of a byte, if the byte is one.
     pub fn new(byte: u8) -> Option<Letter>
         ensures { λ r. ⌜ r ≡ letter-of byte ⌝ }
     {
@@ -28,7 +28,7 @@ impl Letter {
         self.byte
     }
 
-    // The letter's place in the alphabet, counted from 0.
+    /// The letter's place in the alphabet, counted from 0.
     pub fn index(self) -> u8
         ensures value { λ r. ⌜ r ≡ self .byte - 65 ⌝ }
         ensures bound { λ r. ⌜ r < 16 ⌝ }
@@ -39,7 +39,7 @@ impl Letter {
 }
 
 impl LetterCell {
-    // The cell of a byte's letter; NoSymbol where the byte is no letter.
+    /// The cell of a byte's letter; NoSymbol where the byte is no letter.
     pub fn new(byte: u8) -> Result<LetterCell, Refusal>
         ensures { λ r. ⌜ r ≡ letter-cell-of byte ⌝ }
     {

@@ -1,0 +1,9 @@
+pub mod Cuts
+pub mod Passes
+pub mod Copies
+pub mod Few
+pub mod Lines
+pub mod Holdings
+pub mod NewRows
+pub mod Pushes
+pub mod Judging

@@ -1,0 +1,14 @@
+use mathlib.Core.Path.{_≡_, sym, ap, _∙_}
+use Prim.Native.Nat.{_-_}
+use native.Mathlib.Omega.{arith}
+use lib.ListN.{take}
+use Rattle.book.specs.Stored.{sealed-book}
+use Rattle.book.proofs.Holdings.{held-keyword-rows}
+use Rattle.book.proofs.sealed.SealedBook.keywords.Needs as need
+
+pub returns : need.returns
+unfolding sealed-book
+returns g c =
+    let b = c .args .self .now in
+    let z : b .ledger .counts .keywords - 0 ≡ b .ledger .counts .keywords = omega arith in
+    ap (λ n. take n (b .ledger .keywords)) z ∙ sym (held-keyword-rows (b .ledger) (b .cells .now) (b .room))

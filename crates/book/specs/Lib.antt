@@ -1,0 +1,9 @@
+pub mod Rules
+pub mod Book
+pub mod Cutting
+pub mod Layout
+pub mod Stored
+pub mod Rows
+pub mod Proper
+pub mod Entering
+pub mod Admitted

@@ -1,0 +1,3 @@
+pub mod Queued
+pub mod Places
+pub mod Answers
