@@ -50,6 +50,7 @@ module _ {C : Type 0} (b : Ledger) (memory : List C) where
   sized-keywords = size-is b ∙ sym (length-cut (lengths-in b) memory ∙ length-map (keywords-in b) (λ k. k .length) ∙ keyword-count b)
 
   pub held-keywords : all-keywords (held b memory) ≡ cut (lengths-in b) memory
+  unfolding held
   held-keywords = keywords-again (lines-in b) (gaps-in b) (cut (lengths-in b) memory) sized-keywords
 
   pub held-keyword-count : length (all-keywords (held b memory)) ≡ b .counts .keywords
@@ -59,12 +60,15 @@ module _ {C : Type 0} (b : Ledger) (memory : List C) where
   held-cells = ap (joined (λ k. k)) held-keywords ∙ joined-cut (lengths-in b) memory ∙ ap (λ n. take n memory) (total-is b)
 
   pub held-numbers : map (λ l. l .number) (held b memory) ≡ map (λ l. l .number) (lines-in b)
+  unfolding held
   held-numbers = numbers-again (lines-in b) (gaps-in b) (cut (lengths-in b) memory)
 
   pub held-lines : line-rows (held b memory) ≡ lines-in b
+  unfolding held
   held-lines = rows-again (lines-in b) (gaps-in b) (cut (lengths-in b) memory) 0 (b .counts .keywords) (b .joined) sized-keywords
 
   held-gaps : all-gaps (held b memory) ≡ gaps-in b
+  unfolding held
   held-gaps = gaps-again (lines-in b) (keywords-in b) (cut (lengths-in b) memory) (size-is b ∙ sym (keyword-count b)) (b .openings) (b .proper)
 
   module _ (room : b .counts .cells ≤ length memory) where
@@ -82,6 +86,7 @@ module _ {C : Type 0} (b : Ledger) (memory : List C) where
         ∙ keyword-rows-again (keywords-in b) 0 (b .counts .cells) (b .laid)
 
     pub held-proper : Proper (held b memory)
+    unfolding held
     held-proper =
         let ks = keywords-in b in
         let gaps = pass-weaker keyword-ok (λ k. gap-ok (k .gap)) (λ k h. and-parts (length-ok (k .length)) _ h .1) ks (b .sized) in

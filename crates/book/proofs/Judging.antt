@@ -7,18 +7,22 @@ use native.Mathlib.Omega.{arith}
 use lib.Dec.{leb, eqb}
 use lib.ListN.{length}
 use Rattle.std.specs.Results.{isOk}
+use Rattle.std.specs.Vec.{made, refused}
+use Rattle.std.specs.declared.result.Result.{Result}
 use Rattle.std.specs.shelf.Lawful.{all-pass}
 use Rattle.std.specs.shelf.Lists.{All}
 use Rattle.std.proofs.shelf.Tests.{and-parts, leb-true, eqb-true, not-true}
 use Rattle.std.specs.declared.result.Result.the-variants.{Ok, Err}
 use Rattle.refusals.specs.declared.Refusal.{Refusal}
+use Rattle.book.specs.declared.open.OpenBook.{OpenBook}
 use Rattle.book.specs.declared.ledgers.Ledger.{Ledger}
 use Rattle.book.specs.Admitted.{Admitted}
 use Rattle.book.specs.Book.{Book, among, all-keywords, all-cells}
 use Rattle.book.specs.Cutting.{filled}
 use Rattle.book.specs.Entering.{Request, rules, judged, enter-answer, entered, cells-after, line-of}
+use Rattle.book.specs.Outcomes.{Taken, Refused}
 use Rattle.book.specs.Rules.{count-ok, length-ok}
-use Rattle.book.specs.Stored.{held}
+use Rattle.book.specs.Stored.{held, open-book, places}
 use Rattle.book.proofs.Holdings.{held-numbers, held-keyword-count, held-cell-count}
 
 -- a rule that does not hold ends the matter
@@ -33,14 +37,14 @@ all-hold (r ∷ rs) e = let p = first-holds (r .0) (r .1) rs e in (p .0, all-hol
 
 -- the book and the memory after an answer
 module _ {C : Type 0} (b : Book C) (m : List C) (q : Request C) where
-  pub refused : (r : Refusal) → enter-answer b (length m) q ≡ Err r → (entered b (length m) q ≡ b) × (cells-after b m q ≡ m)
-  refused r e = (ap (λ a. cond (isOk a) (b ++ line-of q ∷ []) b) e, ap (λ a. cond (isOk a) (filled m (length (all-cells b)) (q .cells)) m) e)
+  kept : (r : Refusal) → enter-answer b (length m) q ≡ Err r → (entered b (length m) q ≡ b) × (cells-after b m q ≡ m)
+  kept r e = (ap (λ a. cond (isOk a) (b ++ line-of q ∷ []) b) e, ap (λ a. cond (isOk a) (filled m (length (all-cells b)) (q .cells)) m) e)
 
-  pub taken : enter-answer b (length m) q ≡ Ok tt → (entered b (length m) q ≡ b ++ line-of q ∷ []) × (cells-after b m q ≡ filled m (length (all-cells b)) (q .cells))
+  taken : enter-answer b (length m) q ≡ Ok tt → (entered b (length m) q ≡ b ++ line-of q ∷ []) × (cells-after b m q ≡ filled m (length (all-cells b)) (q .cells))
   taken e = (ap (λ a. cond (isOk a) (b ++ line-of q ∷ []) b) e, ap (λ a. cond (isOk a) (filled m (length (all-cells b)) (q .cells)) m) e)
 
 module _ {C : Type 0} (b : Ledger) (m : List C) (q : Request C) (room : b .counts .cells ≤ length m) (e : enter-answer (held b m) (length m) q ≡ Ok tt) where
-  pub admitted : Admitted b q × (b .counts .cells + length (q .cells) ≤ length m)
+  admitted : Admitted b q × (b .counts .cells + length (q .cells) ≤ length m)
   admitted =
       let p = all-hold (rules (held b m) (length m) q) e in
       let counts = and-parts (count-ok (length (q .lengths))) _ (p .1 .1 .1 .1 .0) in
@@ -65,3 +69,17 @@ module _ {C : Type 0} (b : Ledger) (m : List C) (q : Request C) (room : b .count
         },
         omega arith,
       )
+
+-- what is known of a line by the answer
+module _ {C : Type 0} (b : OpenBook C) (q : Request C) where
+  pub takes : (r : Result (Unit {0}) Refusal) → r ≡ enter-answer (open-book b) (places b) q → made r (λ _. Taken b q)
+  takes (Ok x) e =
+      let m = b .cells .now in
+      let a = admitted (b .ledger) m q (b .room) (sym e) in
+      let t = taken (open-book b) m q (sym e) in
+      record { admitted = a .0; room = a .1; book = t .0; memory = t .1 ∙ ap (λ n. filled m n (q .cells)) (held-cell-count (b .ledger) m (b .room)) }
+  takes (Err r) e = tt
+
+  pub refuses : (r : Result (Unit {0}) Refusal) → r ≡ enter-answer (open-book b) (places b) q → refused r (λ _. Refused b q)
+  refuses (Ok x) e = tt
+  refuses (Err r) e = let k = kept (open-book b) (b .cells .now) q r (sym e) in record { book = k .0; memory = k .1 }

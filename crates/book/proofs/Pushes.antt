@@ -95,6 +95,7 @@ module _ {C : Type 0} (b : Ledger) (q : Request C) (a : Admitted b q) where
   -- the book that is then held
   pub held-after : (b′ : Ledger) (m : List C) → b .counts .cells ≤ length m → lines-in b′ ≡ lines-in b ++ row ∷ [] → keywords-in b′ ≡ keywords-in b ++ rows
       → held b′ (filled m (b .counts .cells) (q .cells)) ≡ held b m ++ line-of q ∷ []
+  unfolding held
   held-after b′ m room el ek =
       let m′ : List C = filled m (b .counts .cells) (q .cells) in
       let ns : List ℕ = q .lengths in

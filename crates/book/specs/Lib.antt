@@ -7,3 +7,4 @@ pub mod Rows
 pub mod Proper
 pub mod Entering
 pub mod Admitted
+pub mod Outcomes

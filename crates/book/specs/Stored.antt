@@ -23,17 +23,17 @@ lines-from (l ∷ ls) gaps keywords =
     ∷ lines-from ls (drop (l .keywords) gaps) (drop (l .keywords) keywords)
 
 -- the book in a ledger, whose cells are in a memory
-abbrev pub held : {C : Type 0} → Ledger → List C → Book C
+unfoldable pub held : {C : Type 0} → Ledger → List C → Book C
 held b memory =
     let rows = take (b .counts .keywords) (b .keywords) in
     lines-from (take (b .counts .lines) (b .lines)) (map (λ k. k .gap) rows) (cut (map (λ k. k .length) rows) memory)
 
 -- what an open book holds
-unfoldable pub open-book : {C : Type 0} → OpenBook C → Book C
+abbrev pub open-book : {C : Type 0} → OpenBook C → Book C
 open-book b = held (b .ledger) (b .cells .now)
 
 -- what a sealed book holds
-unfoldable pub sealed-book : {C : Type 0} → SealedBook C → Book C
+abbrev pub sealed-book : {C : Type 0} → SealedBook C → Book C
 sealed-book b = held (b .ledger) (b .cells .now)
 
 -- the places of an open book's memory

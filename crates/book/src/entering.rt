@@ -10,19 +10,21 @@ use cells::kinds::Cell;
 use refusals::Refusal;
 ghost use mathlib.Core.Path.{_≡_};
 ghost use mathlib.Core.Bool.{true, false, _&&_};
-ghost use mathlib.Core.List.{[], _∷_, _++_, map};
+ghost use mathlib.Core.List.{List, [], _∷_, _++_};
 ghost use Prim.Native.Nat.{ℕ, _+_, _<_, _≤_};
 ghost use lib.Dec.{eqb};
 ghost use lib.ListN.{length, getD, take};
 ghost use denote.Ref.{name};
 ghost use Rattle.std.specs.shelf.Lawful.{all-pass};
-ghost use Rattle.book.specs.Book.{among};
+ghost use Rattle.std.specs.Vec.{made, refused};
+ghost use Rattle.book.specs.Book.{Book, has-number};
 ghost use Rattle.book.specs.Cutting.{total, filled};
 ghost use Rattle.book.specs.Admitted.{Admitted, Writable, lines-in, keywords-in, line-row};
 ghost use Rattle.book.specs.Entering.{request, counts-ok, lengths-ok, room-ok, judged, enter-answer, entered, cells-after};
-ghost use Rattle.book.specs.Rows.{keyword-rows-from};
+ghost use Rattle.book.specs.Outcomes.{Taken, Refused};
+ghost use Rattle.book.specs.Rows.{line-rows, keyword-rows-from};
 ghost use Rattle.book.specs.Rules.{within, points-ok};
-ghost use Rattle.book.specs.Stored.{open-book, sealed-book, places};
+ghost use Rattle.book.specs.Stored.{held, open-book, sealed-book, places};
 
 const NO_LINE: LineRow = LineRow {
     number: 0,
@@ -71,9 +73,9 @@ fn add_up_to(numbers: &[u16], sum: usize) -> bool
     left == 0
 }
 
-// Whether one of the lines has a number.
-fn any_has(lines: &[LineRow], number: u16) -> bool
-    ensures { λ r. ⌜ r ≡ among number (map (λ l. l .number) (now (lines .entry))) ⌝ }
+// Whether one of the lines has a number, whichever book the rows tell.
+pub(crate) fn any_has<C>(lines: &[LineRow], number: u16) -> bool
+    ensures { λ r. ⌜ ((b : Book C) → now (lines .entry) ≡ line-rows b → r ≡ has-number number b) ⌝ }
 {
     for line in lines {
         if line.number as u16 == number {
@@ -160,11 +162,21 @@ impl<C: Cell> Entry<'_, C> {
 }
 
 impl Ledger {
-    pub(crate) fn has_number(&self, number: u16) -> bool
-        ensures { λ r. ⌜ r ≡ among number (map (λ l. l .number) (take (now (self .entry) .counts .lines) (now (self .entry) .lines))) ⌝ }
+    // Tables with nothing in them.
+    fn new<C>() -> Ledger
+        ensures counts { λ r. ⌜ r .counts ≡ record { lines = 0; keywords = 0; cells = 0 } ⌝ }
+        ensures book { λ r. ⌜ ((memory : List C) → held r memory ≡ []) ⌝ }
     {
-        let count = self.counts.lines;
-        any_has(&self.lines[0..count], number)
+        let counts = Counts {
+            lines: 0,
+            keywords: 0,
+            cells: 0,
+        };
+        Ledger {
+            lines: [NO_LINE; 128],
+            keywords: [NO_KEYWORD; 512],
+            counts,
+        }
     }
 
     // Whether there is room for so many keywords and cells more, over a memory of so many places.
@@ -211,22 +223,23 @@ impl<'a, C: Cell> OpenBook<'a, C> {
         ensures memory { λ r. ⌜ now (r .cells) ≡ now (cells .entry) ⌝ }
         ensures lender { λ r. ⌜ name (r .cells) ≡ name (cells .entry) ⌝ }
     {
-        let counts = Counts {
-            lines: 0,
-            keywords: 0,
-            cells: 0,
-        };
-        let ledger = Ledger {
-            lines: [NO_LINE; 128],
-            keywords: [NO_KEYWORD; 512],
-            counts,
-        };
+        let ledger = Ledger::new::<C>();
         OpenBook { cells, ledger }
     }
 
-    // Whether the book takes an entry.
+    // Whether there is a line of that number.
+    fn has_number(&self, number: u16) -> bool
+        ensures { λ r. ⌜ r ≡ has-number number (open-book (now (self .entry))) ⌝ }
+    {
+        let count = self.ledger.counts.lines;
+        any_has::<C>(&self.ledger.lines[0..count], number)
+    }
+
+    // Whether the book takes an entry, and what book and memory are then.
     fn judge(&self, entry: &Entry<'_, C>) -> Result<(), Refusal>
-        ensures { λ r. ⌜ r ≡ enter-answer (open-book (now (self .entry))) (places (now (self .entry))) (request (now (entry .entry))) ⌝ }
+        ensures answer { λ r. ⌜ r ≡ enter-answer (open-book (now (self .entry))) (places (now (self .entry))) (request (now (entry .entry))) ⌝ }
+        ensures taken { λ r. ⌜ made r (λ _. Taken (now (self .entry)) (request (now (entry .entry)))) ⌝ }
+        ensures refused { λ r. ⌜ refused r (λ _. Refused (now (self .entry)) (request (now (entry .entry)))) ⌝ }
     {
         let memory = self.cells.len();
         let rules = [
@@ -234,7 +247,7 @@ impl<'a, C: Cell> OpenBook<'a, C> {
                 is_within(entry.number as usize, 1, 128),
                 Refusal::NumberOutOfRange,
             ),
-            (!self.ledger.has_number(entry.number), Refusal::NumberTaken),
+            (!self.has_number(entry.number), Refusal::NumberTaken),
             (entry.points_fit(), Refusal::PointsOutOfRange),
             (entry.lag <= 63, Refusal::LagTooLong),
             (entry.counts_match(), Refusal::KeywordCount),
@@ -262,6 +275,17 @@ impl<'a, C: Cell> OpenBook<'a, C> {
         }
     }
 
+    // The line goes behind the others.
+    fn place(&mut self, entry: &Entry<'_, C>)
+        requires { ⌜ Taken (now self) (request (now entry)) ⌝ }
+        ensures book { λ _. ⌜ open-book (now (self .exit)) ≡ entered (open-book (now (self .entry))) (places (now (self .entry))) (request (now (entry .entry))) ⌝ }
+        ensures memory { λ _. ⌜ now (now (self .exit) .cells) ≡ cells-after (open-book (now (self .entry))) (now (now (self .entry) .cells)) (request (now (entry .entry))) ⌝ }
+        ensures lender { λ _. ⌜ name (now (self .exit) .cells) ≡ name (now (self .entry) .cells) ⌝ }
+    {
+        self.write_cells(entry.cells);
+        self.ledger.push(entry);
+    }
+
     /// Enters a line behind the others, or refuses it and changes nothing.
     pub fn enter(&mut self, entry: Entry<'_, C>) -> Result<(), Refusal>
         ensures answer { λ r. ⌜ r ≡ enter-answer (open-book (now (self .entry))) (places (now (self .entry))) (request (entry .entry)) ⌝ }
@@ -270,8 +294,7 @@ impl<'a, C: Cell> OpenBook<'a, C> {
         ensures lender { λ _. ⌜ name (now (self .exit) .cells) ≡ name (now (self .entry) .cells) ⌝ }
     {
         self.judge(&entry)?;
-        self.write_cells(entry.cells);
-        self.ledger.push(&entry);
+        self.place(&entry);
         Ok(())
     }
 

@@ -1,21 +1,35 @@
 // What a sealed book tells of itself.
+use crate::entering::any_has;
+use crate::rows::Counts;
 use crate::rows::KeywordRow;
 use crate::rows::LineRow;
 use crate::sealed::SealedBook;
 use cells::kinds::Cell;
 ghost use mathlib.Core.Path.{_≡_};
+ghost use lib.ListN.{take};
 ghost use Rattle.book.specs.Book.{all-cells, has-number};
 ghost use Rattle.book.specs.Proper.{Proper};
 ghost use Rattle.book.specs.Rows.{line-rows, keyword-rows};
 ghost use Rattle.book.specs.Stored.{sealed-book};
 
 impl<'a, C: Cell> SealedBook<'a, C> {
+    // How far the tables and the memory are filled; and what the filled parts hold.
+    fn filled(&self) -> Counts
+        ensures counts { λ r. ⌜ r ≡ now (self .entry) .ledger .counts ⌝ }
+        ensures lines { λ r. ⌜ take (r .lines) (now (self .entry) .ledger .lines) ≡ line-rows (sealed-book (now (self .entry))) ⌝ }
+        ensures keywords { λ r. ⌜ take (r .keywords) (now (self .entry) .ledger .keywords) ≡ keyword-rows (sealed-book (now (self .entry))) ⌝ }
+        ensures cells { λ r. ⌜ take (r .cells) (now (now (self .entry) .cells)) ≡ all-cells (sealed-book (now (self .entry))) ⌝ }
+        ensures proper { λ r. ⌜ Proper (sealed-book (now (self .entry))) ⌝ }
+    {
+        self.ledger.counts
+    }
+
     /// The lines, in entry order; and what the book keeps to.
     pub fn lines(&self) -> &[LineRow]
         ensures rows { λ r. ⌜ now r ≡ line-rows (sealed-book (now (self .entry))) ⌝ }
         ensures proper { λ r. ⌜ Proper (sealed-book (now (self .entry))) ⌝ }
     {
-        let count = self.ledger.counts.lines;
+        let count = self.filled().lines;
         &self.ledger.lines[0..count]
     }
 
@@ -23,7 +37,7 @@ impl<'a, C: Cell> SealedBook<'a, C> {
     pub fn keywords(&self) -> &[KeywordRow]
         ensures { λ r. ⌜ now r ≡ keyword-rows (sealed-book (now (self .entry))) ⌝ }
     {
-        let count = self.ledger.counts.keywords;
+        let count = self.filled().keywords;
         &self.ledger.keywords[0..count]
     }
 
@@ -31,7 +45,7 @@ impl<'a, C: Cell> SealedBook<'a, C> {
     pub fn cells(&self) -> &'a [C]
         ensures { λ r. ⌜ now r ≡ all-cells (sealed-book (now (self .entry))) ⌝ }
     {
-        let count = self.ledger.counts.cells;
+        let count = self.filled().cells;
         &self.cells[0..count]
     }
 
@@ -39,6 +53,6 @@ impl<'a, C: Cell> SealedBook<'a, C> {
     pub fn has_number(&self, number: u16) -> bool
         ensures { λ r. ⌜ r ≡ has-number number (sealed-book (now (self .entry))) ⌝ }
     {
-        self.ledger.has_number(number)
+        any_has::<C>(self.lines(), number)
     }
 }

@@ -7,17 +7,17 @@ use refusals::Refusal;
 
 /// A line in letters.
 #[derive(Clone, Copy)]
-pub struct Letters {
-    pub number: u16,
-    pub points: i32,
-    pub lag: u16,
-    pub lengths: &'static [u16],
-    pub gaps: &'static [u16],
-    pub letters: &'static [u8],
+pub(crate) struct Letters {
+    pub(crate) number: u16,
+    pub(crate) points: i32,
+    pub(crate) lag: u16,
+    pub(crate) lengths: &'static [u16],
+    pub(crate) gaps: &'static [u16],
+    pub(crate) letters: &'static [u8],
 }
 
 /// Lines 5, 7 and 9; then a second line 5, which the book refuses.
-pub const LINES: [Letters; 4] = [
+pub(crate) const LINES: [Letters; 4] = [
     Letters {
         number: 5,
         points: 30,
@@ -53,7 +53,7 @@ pub const LINES: [Letters; 4] = [
 ];
 
 /// Enters a line in letters. A byte that is no letter refuses it too.
-pub fn enter(book: &mut OpenBook<'_, LetterCell>, line: Letters) -> Result<(), Refusal> {
+pub(crate) fn enter(book: &mut OpenBook<'_, LetterCell>, line: Letters) -> Result<(), Refusal> {
     let mut cells = [LetterCell::new(b'A')?; 16];
     let count = line.letters.len().min(16);
     for i in 0..count {

@@ -7,7 +7,7 @@ use cells::letters::admitting::LetterKind;
 use std::io;
 
 /// A row for the book, and one for each line: number, points, lag, and the keywords with the gaps between them.
-pub fn show(rt: &impl Print, book: &SealedBook<'_, LetterCell>) -> io::Result<()> {
+pub(crate) fn show(rt: &impl Print, book: &SealedBook<'_, LetterCell>) -> io::Result<()> {
     let lines = book.lines();
     println!(
         rt,

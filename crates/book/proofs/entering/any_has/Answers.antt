@@ -1,12 +1,13 @@
 use mathlib.Core.Path.{_≡_, refl, sym, _∙_, ap}
-use mathlib.Core.List.{List, map}
+use mathlib.Core.List.{List, [], _∷_, map}
 use mathlib.Core.Bool.{Bool, true, false, _||_}
 use Prim.Native.Nat.{ℕ, _+_, _<_}
 use lib.ListN.{drop, getD, length}
 use Rattle.std.proofs.shelf.Lists.{at-drop-more, at-drop-all}
 use Rattle.std.proofs.shelf.Tests.{eq-eqb, ne-eqb}
 use Rattle.book.specs.declared.rows.LineRow.{LineRow}
-use Rattle.book.specs.Book.{among}
+use Rattle.book.specs.Book.{Book, among, has-number}
+use Rattle.book.specs.Rows.{line-rows, line-rows-from}
 use Rattle.book.proofs.entering.any_has.Needs as need
 
 named : ℕ → List LineRow → Bool
@@ -21,14 +22,24 @@ module _ (n : ℕ) (ls : List LineRow) (i : ℕ) (d : LineRow) (h : i < length l
   unfolding named
   past e = at-drop-more (λ xs. among n (map (λ l. l .number) xs)) ls i d h ∙ simp (ne-eqb _ _ e)
 
+-- the rows of a book have the numbers of its lines
+numbers : {C : Type 0} (b : Book C) (k : ℕ) → map (λ l. l .number) (line-rows-from k b) ≡ map (λ l. l .number) b
+numbers [] k = refl
+numbers (l ∷ b) k = ap (λ ns. l .number ∷ ns) (numbers b (k + length (l .keywords)))
+
+told : {C : Type 0} (n : ℕ) (ls : List LineRow) (b : Book C) → ls ≡ line-rows b → named n ls ≡ has-number n b
+unfolding named
+told n ls b e = ap (λ xs. among n (map (λ l. l .number) xs)) e ∙ ap (among n) (numbers b 0)
+
 pub returns-then-line-number : need.returns-then-line-number
 unfolding named
-returns-then-line-number c = sym (c .loop-line .inv ∙ here (c .args .number) (c .args .lines .now) (c .loop-line .line-index) _ (c .loop-line-test .taken) (c .if-line-number .taken))
+returns-then-line-number g c b e =
+    sym (sym (told (c .args .number) (c .args .lines .now) b e) ∙ c .loop-line .inv ∙ here (c .args .number) (c .args .lines .now) (c .loop-line .line-index) _ (c .loop-line-test .taken) (c .if-line-number .taken))
 
 pub loop-line-again : need.loop-line-again
 unfolding named
-loop-line-again c = c .loop-line .inv ∙ past (c .args .number) (c .args .lines .now) (c .loop-line .line-index) _ (c .loop-line-test .taken) (c .if-line-number .left)
+loop-line-again g c = c .loop-line .inv ∙ past (c .args .number) (c .args .lines .now) (c .loop-line .line-index) _ (c .loop-line-test .taken) (c .if-line-number .left)
 
 pub returns : need.returns
 unfolding named
-returns c = sym (c .loop-line .inv ∙ at-drop-all (named (c .args .number)) (c .args .lines .now) (c .loop-line .line-index) (c .loop-line-test .left))
+returns g c b e = sym (sym (told (c .args .number) (c .args .lines .now) b e) ∙ c .loop-line .inv ∙ at-drop-all (named (c .args .number)) (c .args .lines .now) (c .loop-line .line-index) (c .loop-line-test .left))
