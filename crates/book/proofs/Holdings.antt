@@ -1,26 +1,27 @@
 -- What a ledger's promises say of the book that it holds.
-use mathlib.Core.Path.{_≡_, refl, sym, ap, _∙_}
+use mathlib.Core.Path.{_≡_, refl, sym, ap, _∙_, subst}
 use mathlib.Core.Bool.{Bool, true}
 use mathlib.Core.List.{List, [], _∷_, _++_, map}
-use Prim.Native.Nat.{ℕ, _+_, _≤_}
+use Prim.Native.Nat.{ℕ, zero, suc, _+_, _≤_}
 use native.Mathlib.Omega.{arith}
+use lib.Dec.{leb}
 use lib.ListN.{length, take}
 use Rattle.std.specs.Joined.{joined}
 use Rattle.std.specs.shelf.Lawful.{all-pass}
 use Rattle.std.proofs.shelf.Lists.{length-take-le, length-map}
-use Rattle.std.proofs.shelf.Tests.{and-parts}
+use Rattle.std.proofs.shelf.Tests.{and-parts, leb-true}
 use Rattle.book.specs.declared.rows.LineRow.{LineRow}
 use Rattle.book.specs.declared.rows.KeywordRow.{KeywordRow}
 use Rattle.book.specs.declared.ledgers.Ledger.{Ledger}
 use Rattle.book.specs.Admitted.{lines-in, keywords-in}
 use Rattle.book.specs.Book.{Book, all-keywords, all-cells, all-gaps}
 use Rattle.book.specs.Cutting.{total, cut}
-use Rattle.book.specs.Layout.{distinct, keyword-ok}
-use Rattle.book.specs.Proper.{Proper, ProperLine}
+use Rattle.book.specs.Layout.{distinct, keywords-laid, keyword-ok}
+use Rattle.book.specs.Proper.{Proper, ProperLine, AllFit}
 use Rattle.book.specs.Rows.{line-rows, keyword-rows, keyword-rows-from}
 use Rattle.book.specs.Rules.{length-ok, gap-ok}
 use Rattle.book.specs.Stored.{held, lines-from}
-use Rattle.book.proofs.Cuts.{laid-total, length-cut, lengths-cut, joined-cut}
+use Rattle.book.proofs.Cuts.{laid-parts, laid-total, length-cut, lengths-cut, joined-cut}
 use Rattle.book.proofs.Lines.{size, keywords-again, numbers-again, rows-again, gaps-again, all-proper, keyword-rows-again}
 use Rattle.book.proofs.Passes.{pass-map, pass-weaker}
 
@@ -41,6 +42,25 @@ size-is b = let e = laid-total (λ (l : LineRow). l .first) (λ (l : LineRow). l
 
 pub total-is : (b : Ledger) → total (lengths-in b) ≡ b .counts .cells
 total-is b = let e = laid-total (λ (k : KeywordRow). k .first) (λ (k : KeywordRow). k .length) (keywords-in b) 0 (b .counts .cells) (b .laid) in omega arith
+
+-- keywords that lie one after another and are within their limits fit
+all-fit : (ks : List KeywordRow) (from to : ℕ) → keywords-laid ks from to ≡ true → to ≤ 1023 → all-pass keyword-ok ks ≡ true → AllFit ks
+all-fit [] from to h m p k d l = absurd (let z : ⊥ = omega arith in z)
+all-fit (x ∷ ks) from to h m p zero d l =
+    let q = laid-parts (λ (y : KeywordRow). y .first) (λ (y : KeywordRow). y .length) x ks from to h in
+    let t = laid-total (λ (y : KeywordRow). y .first) (λ (y : KeywordRow). y .length) ks (from + x .length) to (q .1) in
+    let o = and-parts (keyword-ok x) _ p .0 in
+    let long = and-parts (leb 1 (x .length)) _ (and-parts (length-ok (x .length)) _ o .0) in
+    let gap = and-parts (leb 0 (x .gap)) _ (and-parts (length-ok (x .length)) _ o .1) in
+    record {
+      some = leb-true 1 (x .length) (long .0);
+      short = leb-true (x .length) 16 (long .1);
+      narrow = leb-true (x .gap) 112 (gap .1);
+      inside = omega arith;
+    }
+all-fit (x ∷ ks) from to h m p (suc k) d l =
+    let q = laid-parts (λ (y : KeywordRow). y .first) (λ (y : KeywordRow). y .length) x ks from to h in
+    all-fit ks (from + x .length) to (q .1) m (and-parts (keyword-ok x) _ p .1) k d (omega arith)
 
 module _ {C : Type 0} (b : Ledger) (memory : List C) where
   pub sized-gaps : size (lines-in b) ≡ length (gaps-in b)
@@ -101,3 +121,6 @@ module _ {C : Type 0} (b : Ledger) (memory : List C) where
           keywords = omega (arith, held-keyword-count, b .few .1);
           cells = omega (arith, held-cell-count, b .few .2);
         }
+
+    pub held-fit : AllFit (keyword-rows (held b memory))
+    held-fit = subst AllFit (sym held-keyword-rows) (all-fit (keywords-in b) 0 (b .counts .cells) (b .laid) (b .few .2) (b .sized))

@@ -43,7 +43,8 @@ rows-lengths p (g ∷ gs) [] e = refl
 rows-lengths p (g ∷ gs) (n ∷ ns) e = ap (λ xs. n ∷ xs) (rows-lengths (p + n) gs ns (omega arith))
 
 pub rows-gaps : (p : ℕ) (gs ns : List ℕ) → length gs ≡ length ns → map (λ k. k .gap) (keyword-rows-from p gs ns) ≡ gs
-rows-gaps p [] ns e = refl
+rows-gaps p [] [] e = refl
+rows-gaps p [] (n ∷ ns) e = none (omega arith)
 rows-gaps p (g ∷ gs) [] e = none (omega arith)
 rows-gaps p (g ∷ gs) (n ∷ ns) e = ap (λ xs. g ∷ xs) (rows-gaps (p + n) gs ns (omega arith))
 
@@ -65,7 +66,10 @@ rows-laid p (g ∷ gs) (n ∷ ns) e =
     and-from _ _ (eq-eqb p p refl) (ap (keywords-laid (keyword-rows-from (p + n) gs ns) (p + n)) (sym (add-assoc p n (total ns))) ∙ rows-laid (p + n) gs ns (omega arith))
 
 pub rows-ok : (p : ℕ) (gs ns : List ℕ) → all-pass gap-ok gs ≡ true → all-pass length-ok ns ≡ true → all-pass keyword-ok (keyword-rows-from p gs ns) ≡ true
-rows-ok p [] ns h k = refl
+rows-ok p [] [] h k = refl
+rows-ok p [] (n ∷ ns) h k =
+    let r = and-parts (length-ok n) _ k in
+    and-from _ _ (and-from _ _ (r .0) refl) (rows-ok (p + n) [] ns h (r .1))
 rows-ok p (g ∷ gs) [] h k = refl
 rows-ok p (g ∷ gs) (n ∷ ns) h k =
     let q = and-parts (gap-ok g) _ h in

@@ -1,11 +1,12 @@
 -- What every book keeps to.
 use mathlib.Core.Path.{_≡_}
 use mathlib.Core.Bool.{true}
-use mathlib.Core.List.{map}
-use Prim.Native.Nat.{_+_, _≤_}
-use lib.ListN.{length}
+use mathlib.Core.List.{List, map}
+use Prim.Native.Nat.{ℕ, _+_, _≤_, _<_}
+use lib.ListN.{length, getD}
 use Rattle.std.specs.shelf.Lawful.{all-pass}
 use Rattle.std.specs.shelf.Lists.{All}
+use Rattle.book.specs.declared.rows.KeywordRow.{KeywordRow}
 use Rattle.book.specs.Book.{Line, Book, all-keywords, all-cells}
 use Rattle.book.specs.Layout.{distinct}
 use Rattle.book.specs.Rules.{number-ok, points-ok, lag-ok, count-ok, length-ok, gap-ok}
@@ -27,3 +28,14 @@ pub record Proper {C : Type 0} (b : Book C) : Type 0 where
   pub lines : length b ≤ 128
   pub keywords : length (all-keywords b) ≤ 512
   pub cells : length (all-cells b) ≤ 1023
+
+-- a keyword within its limits, whose places are among those that a book may have
+pub record Fits (k : KeywordRow) : Type 0 where
+  pub some : 1 ≤ k .length
+  pub short : k .length ≤ 16
+  pub narrow : k .gap ≤ 112
+  pub inside : k .first + k .length ≤ 1023
+
+-- each of some keywords
+abbrev pub AllFit : List KeywordRow → Type 0
+AllFit rows = (k : ℕ) (d : KeywordRow) → k < length rows → Fits (getD rows k d)

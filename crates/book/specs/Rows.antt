@@ -13,10 +13,10 @@ line-rows-from first (l ∷ ls) =
     record { number = l .number; points = l .points; lag = l .lag; first = first; keywords = length (l .keywords) }
     ∷ line-rows-from (first + length (l .keywords)) ls
 
--- a row for each keyword, from its gap and length, and the place of the first on
+-- a row for each keyword, from the gaps and lengths, and the place of the first on
 abbrev pub keyword-rows-from : ℕ → List ℕ → List ℕ → List KeywordRow
-keyword-rows-from first [] lengths = []
-keyword-rows-from first (g ∷ gaps) [] = []
+keyword-rows-from first gaps [] = []
+keyword-rows-from first [] (n ∷ lengths) = record { gap = 0; first = first; length = n } ∷ keyword-rows-from (first + n) [] lengths
 keyword-rows-from first (g ∷ gaps) (n ∷ lengths) = record { gap = g; first = first; length = n } ∷ keyword-rows-from (first + n) gaps lengths
 
 -- the lines of a book

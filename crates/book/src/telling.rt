@@ -6,9 +6,10 @@ use crate::rows::LineRow;
 use crate::sealed::SealedBook;
 use cells::kinds::Cell;
 ghost use mathlib.Core.Path.{_≡_};
-ghost use lib.ListN.{take};
+ghost use Prim.Native.Nat.{_≤_};
+ghost use lib.ListN.{length, take};
 ghost use Rattle.book.specs.Book.{all-cells, has-number};
-ghost use Rattle.book.specs.Proper.{Proper};
+ghost use Rattle.book.specs.Proper.{Proper, AllFit};
 ghost use Rattle.book.specs.Rows.{line-rows, keyword-rows};
 ghost use Rattle.book.specs.Stored.{sealed-book};
 
@@ -20,6 +21,7 @@ impl<'a, C: Cell> SealedBook<'a, C> {
         ensures keywords { λ r. ⌜ take (r .keywords) (now (self .entry) .ledger .keywords) ≡ keyword-rows (sealed-book (now (self .entry))) ⌝ }
         ensures cells { λ r. ⌜ take (r .cells) (now (now (self .entry) .cells)) ≡ all-cells (sealed-book (now (self .entry))) ⌝ }
         ensures proper { λ r. ⌜ Proper (sealed-book (now (self .entry))) ⌝ }
+        ensures fit { λ r. ⌜ AllFit (keyword-rows (sealed-book (now (self .entry)))) ⌝ }
     {
         self.ledger.counts
     }
@@ -33,17 +35,19 @@ impl<'a, C: Cell> SealedBook<'a, C> {
         &self.ledger.lines[0..count]
     }
 
-    /// The keywords, line after line.
+    /// The keywords, line after line, each within its limits.
     pub fn keywords(&self) -> &[KeywordRow]
-        ensures { λ r. ⌜ now r ≡ keyword-rows (sealed-book (now (self .entry))) ⌝ }
+        ensures rows { λ r. ⌜ now r ≡ keyword-rows (sealed-book (now (self .entry))) ⌝ }
+        ensures fit { λ r. ⌜ AllFit (now r) ⌝ }
     {
         let count = self.filled().keywords;
         &self.ledger.keywords[0..count]
     }
 
-    /// The cells by place, keyword after keyword.
+    /// The cells by place, keyword after keyword: 1,023 at most.
     pub fn cells(&self) -> &'a [C]
-        ensures { λ r. ⌜ now r ≡ all-cells (sealed-book (now (self .entry))) ⌝ }
+        ensures cells { λ r. ⌜ now r ≡ all-cells (sealed-book (now (self .entry))) ⌝ }
+        ensures few { λ r. ⌜ length (now r) ≤ 1023 ⌝ }
     {
         let count = self.filled().cells;
         &self.cells[0..count]

@@ -1,5 +1,5 @@
 use mathlib.Core.Path.{refl, sym}
-use Rattle.book.proofs.Holdings.{held-lines, held-keyword-rows, held-cells, held-proper}
+use Rattle.book.proofs.Holdings.{held-lines, held-keyword-rows, held-cells, held-proper, held-fit}
 use Rattle.book.proofs.sealed.SealedBook.filled.Needs as need
 
 pub returns : need.returns
@@ -11,4 +11,5 @@ returns g c =
       keywords = sym (held-keyword-rows (b .ledger) (b .cells .now) (b .room));
       cells = sym (held-cells (b .ledger) (b .cells .now));
       proper = held-proper (b .ledger) (b .cells .now) (b .room);
+      fit = held-fit (b .ledger) (b .cells .now) (b .room);
     }
