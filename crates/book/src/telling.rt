@@ -35,10 +35,11 @@ impl<'a, C: Cell> SealedBook<'a, C> {
         &self.ledger.lines[0..count]
     }
 
-    /// The keywords, line after line, each within its limits.
+    /// The keywords, line after line, each within its limits: 512 at most.
     pub fn keywords(&self) -> &[KeywordRow]
         ensures rows { λ r. ⌜ now r ≡ keyword-rows (sealed-book (now (self .entry))) ⌝ }
         ensures fit { λ r. ⌜ AllFit (now r) ⌝ }
+        ensures few { λ r. ⌜ length (now r) ≤ 512 ⌝ }
     {
         let count = self.filled().keywords;
         &self.ledger.keywords[0..count]

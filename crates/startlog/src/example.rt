@@ -52,6 +52,9 @@ pub(crate) const LINES: [Letters; 4] = [
     },
 ];
 
+/// The worked example's trace.
+pub(crate) const TRACE: &[u8] = b"ABDDCABCC";
+
 /// Enters a line in letters. A byte that is no letter refuses it too.
 pub(crate) fn enter(book: &mut OpenBook<'_, LetterCell>, line: Letters) -> Result<(), Refusal> {
     let mut cells = [LetterCell::new(b'A')?; 16];

@@ -1,5 +1,7 @@
-// startlog: enters the worked example's lines in a book, and prints what the sealed book holds.
+// startlog: enters the worked example's lines in a book, prints what the sealed book holds, and prints the ticks of the
+// worked example's trace at which keywords end.
 mod example;
+mod finding;
 mod showing;
 
 use book::open::OpenBook;
@@ -25,6 +27,7 @@ fn run(rt: &impl Print) -> Result<(), AnyError> {
     }
     let sealed = book.seal();
     showing::show(rt, &sealed)?;
+    finding::watch(rt, sealed, example::TRACE)?;
     Ok(())
 }
 

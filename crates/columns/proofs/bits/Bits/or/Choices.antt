@@ -1,0 +1,10 @@
+use Prim.Native.Nat.{ℕ, _<_}
+use mathlib.Core.Path.{_≡_}
+use lib.Bits.{bitOr}
+use lib.ListN.{length, getD}
+use Rattle.columns.proofs.bits.Bits.or.Given as given
+
+abbrev pub Inv-loop-i : given.InvT-loop-i
+Inv-loop-i g l =
+    (length (l .words) ≡ g .N)
+    × ((k : ℕ) → k < l .i → getD (l .words) k 0 ≡ bitOr (getD (l .self .words) k 0) (getD (l .other .words) k 0))

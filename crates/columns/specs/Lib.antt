@@ -1,0 +1,4 @@
+pub mod Bits
+pub mod Passing
+pub mod Marks
+pub mod Numbers
