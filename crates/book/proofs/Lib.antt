@@ -1,3 +1,4 @@
+pub mod Amongs
 pub mod Cuts
 pub mod Passes
 pub mod Copies

@@ -6,7 +6,7 @@ use Prim.Native.Nat.{ℕ, _+_, _*_, _^_, _<_, _≤_}
 use native.Mathlib.Omega.{arith}
 use lib.ListN.{length, getD}
 use Rattle.std.specs.Options.{Cases}
-use Rattle.std.specs.shelf.Lists.{All}
+use Rattle.std.specs.shelf.Lists.{All, Has}
 use Rattle.std.proofs.shelf.Adapters.{Road}
 use Rattle.std.proofs.shelf.Roads.{road-from-shown}
 use Rattle.std.proofs.shelf.Lists.{ext-getD}
@@ -19,7 +19,7 @@ use Rattle.columns.specs.Marks.{mark, blank}
 use Rattle.columns.specs.Numbers.{member, rising, remaining}
 use Rattle.columns.proofs.Digits.{same-digits}
 use Rattle.columns.proofs.Places.{bits-none, bit-past, bit-at, set-below, set-from}
-use Rattle.columns.proofs.Rises.{passing-each, length-passing, passing-same}
+use Rattle.columns.proofs.Rises.{passing-each, passing-has, length-passing, passing-same}
 
 -- A column has the marks 0 to 511.
 pub mark-past : (c : Column) (k : ℕ) → 512 ≤ k → mark c k ≡ false
@@ -60,9 +60,13 @@ pub member-number : (s : Numbers) (n : ℕ) → member s n ≡ true → (1 ≤ n
 unfolding member
 member-number s n h = (set-from (s .bits) n h, omega (arith, set-below (s .bits) n h))
 
--- The list of the members: each is a member, there are 128 at most, and sets with the same members have the same list.
+-- The list of the members: each is a member, each member is there, there are 128 at most, and sets with the same members
+-- have the same list.
 pub rising-members : (s : Numbers) → All (λ n. member s n ≡ true) (rising s)
 rising-members s = passing-each (member s) 1 128
+
+pub rising-has : (s : Numbers) (n : ℕ) → member s n ≡ true → Has (rising s) n
+rising-has s n h = let i = member-number s n h in passing-has (member s) 1 128 n (i .0) (omega arith) h
 
 pub length-rising : (s : Numbers) → length (rising s) ≤ 128
 length-rising s = length-passing (member s) 1 128

@@ -7,18 +7,31 @@ use Prim.Native.Nat.{ℕ, zero, suc, _+_, _-_, _<_, _≤_}
 use native.Mathlib.Omega.{arith}
 use lib.ListN.{length}
 use Rattle.std.specs.Iters.{counting}
-use Rattle.std.specs.shelf.Lists.{All}
+use Rattle.std.specs.shelf.Lists.{All, Has}
 use Rattle.std.proofs.shelf.Counted.{length-counting}
-use Rattle.std.proofs.shelf.Elements.{kept-by-passes}
+use Rattle.std.proofs.shelf.Elements.{kept-by-passes, has-append-right}
 use Rattle.std.proofs.shelf.Sums.{length-kept-by, countBy-le-length}
-use Rattle.std.proofs.shelf.Tests.{cases-eq}
+use Rattle.std.proofs.shelf.Tests.{cases-eq, cases-bool}
 use Rattle.columns.specs.Passing.{passing, None-from, Least-from}
 
--- Each passes, there are no more than numbers to test, and tests that agree give the same.
+-- Each passes, and each that passes is there.
 pub passing-each : (p : ℕ → Bool) (a n : ℕ) → All (λ k. p k ≡ true) (passing p a n)
 unfolding passing
 passing-each p a n = kept-by-passes p (counting a n)
 
+pub passing-has : (p : ℕ → Bool) (a n m : ℕ) → a ≤ m → m < a + n → p m ≡ true → Has (passing p a n) m
+unfolding passing
+passing-has p a zero m lo hi t = absurd (omega arith)
+passing-has p a (suc n) m lo hi t =
+    let rest = passing p (a + 1) n in
+    elim (cases-eq a m) [
+      | inl e ↦ rw (e, t) (0, omega arith, λ d. refl)
+      | inr e ↦
+          let h = passing-has p (a + 1) n m (omega arith) (omega arith) t in
+          elim (cases-bool (p a)) [ inl y ↦ rw y (has-append-right (a ∷ []) rest m h) | inr y ↦ rw y h ]
+    ]
+
+-- There are no more than numbers to test, and tests that agree give the same.
 pub length-passing : (p : ℕ → Bool) (a n : ℕ) → length (passing p a n) ≤ n
 unfolding passing
 length-passing p a n =

@@ -72,13 +72,14 @@ impl Column {
         self.bits().count()
     }
 
-    // The column of these bits.
+    // The column whose marks are these bits.
     fn of(bits: Bits<0, 8>) -> Column
         ensures { λ r. ⌜ ((k : ℕ) → mark r k ≡ bit bits k) ⌝ }
     {
         Column { bits }
     }
 
+    // The bits, which are the marks.
     fn bits(self) -> Bits<0, 8>
         ensures all { λ r. ⌜ bit r ≡ mark self ⌝ }
         ensures each { λ r. ⌜ ((k : ℕ) → bit r k ≡ mark self k) ⌝ }

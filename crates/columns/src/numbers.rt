@@ -53,7 +53,7 @@ impl Numbers {
         Members { set: self, from: 1 }
     }
 
-    // The least member from a number on: it is the first of those from there on.
+    // The least member from a number on, which is the first of those from there on.
     fn next_from(self, from: u8) -> Option<u8>
         ensures { λ r. ⌜ Cases r (rising-from self from ≡ []) (λ n. (n ≤ 128) × (rising-from self from ≡ n ∷ rising-from self (n + 1))) ⌝ }
     {
@@ -61,13 +61,14 @@ impl Numbers {
         Some(number as u8)
     }
 
-    // The set of these bits.
+    // The set whose members are these bits.
     fn of(bits: Bits<1, 2>) -> Numbers
         ensures { λ r. ⌜ ((n : ℕ) → member r n ≡ bit bits n) ⌝ }
     {
         Numbers { bits }
     }
 
+    // The bits, which are the members.
     fn bits(self) -> Bits<1, 2>
         ensures all { λ r. ⌜ bit r ≡ member self ⌝ }
         ensures each { λ r. ⌜ ((n : ℕ) → bit r n ≡ member self n) ⌝ }

@@ -9,7 +9,6 @@ use lib.Dec.{eqb, ltb}
 use lib.ListN.{length, getD, replicate}
 use Rattle.std.proofs.shelf.Tests.{cases-order, lt-ltb, le-ltb, eq-eqb, ne-eqb, and-right}
 use Rattle.book.specs.declared.rows.KeywordRow.{KeywordRow}
-use Rattle.book.specs.Book.{among}
 use Rattle.finders.specs.Runs.{passes, ends-among}
 
 -- no mark stands in an empty row
@@ -39,17 +38,6 @@ module _ (stands : ℕ → Bool) where
   ends-past [] k h = refl
   ends-past (r ∷ rs) zero h = absurd (let z : ⊥ = omega arith in z)
   ends-past (r ∷ rs) (suc k) h = ends-past rs k (omega arith)
-
--- a number is among others or is the newest
-pub among-push : (p : ℕ) (ns : List ℕ) (n : ℕ) → among p (ns ++ n ∷ []) ≡ (eqb n p || among p ns)
-among-push p [] n = refl
-among-push p (m ∷ ns) n = ap (λ b. eqb m p || b) (among-push p ns n) ∙ swap (eqb m p) (eqb n p) (among p ns)
-  where
-    swap : (a b c : Bool) → (a || (b || c)) ≡ (b || (a || c))
-    swap true true c = refl
-    swap true false c = refl
-    swap false true c = refl
-    swap false false c = refl
 
 -- a set of marks that has come one number further
 module _ (e : ℕ → Bool) (n : ℕ) where

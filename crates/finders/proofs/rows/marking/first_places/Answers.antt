@@ -13,7 +13,8 @@ use Rattle.book.specs.declared.rows.KeywordRow.{KeywordRow}
 use Rattle.book.specs.Book.{among}
 use Rattle.book.specs.Stored.{sealed-book}
 use Rattle.finders.specs.Runs.{begins}
-use Rattle.finders.proofs.Marks.{never, among-push}
+use Rattle.book.proofs.Amongs.{among-push}
+use Rattle.finders.proofs.Marks.{never}
 use Rattle.finders.proofs.rows.marking.first_places.Needs as need
 
 -- one more first place is marked

@@ -1,0 +1,5 @@
+pub mod Reaches
+pub mod Backs
+pub mod Steps
+pub mod Grows
+pub mod OwnMarks
