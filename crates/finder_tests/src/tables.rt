@@ -13,22 +13,22 @@ use refusals::Refusal;
 
 /// A line: its points and lag do not matter here.
 #[derive(Drop)]
-pub struct Line<T: 'static> {
-    pub number: u16,
-    pub lengths: &'static [u16],
-    pub gaps: &'static [u16],
-    pub cells: &'static [T],
+pub(crate) struct Line<T: 'static> {
+    pub(crate) number: u16,
+    pub(crate) lengths: &'static [u16],
+    pub(crate) gaps: &'static [u16],
+    pub(crate) cells: &'static [T],
 }
 
 /// A case: at tick t, counted from 0, just the keywords `ended[t]` have ended.
 #[derive(Drop)]
-pub struct Case<T: 'static, S: 'static> {
-    pub lines: &'static [Line<T>],
-    pub trace: &'static [S],
-    pub ended: &'static [&'static [usize]],
+pub(crate) struct Case<T: 'static, S: 'static> {
+    pub(crate) lines: &'static [Line<T>],
+    pub(crate) trace: &'static [S],
+    pub(crate) ended: &'static [&'static [usize]],
 }
 
-pub static LETTER_CASES: [Case<u8, u8>; 5] = [
+pub(crate) static LETTER_CASES: [Case<u8, u8>; 5] = [
     // a book without lines
     Case {
         lines: &[],
@@ -138,13 +138,13 @@ pub static LETTER_CASES: [Case<u8, u8>; 5] = [
 ];
 
 /// Lowest and highest rpm, lowest and highest oil.
-pub type Band = (u16, u16, u16, u16);
+pub(crate) type Band = (u16, u16, u16, u16);
 
 const CRANKING: Band = (100, 200, 0, 9999);
 
 const RUNNING: Band = (600, 900, 150, 9999);
 
-pub static BAND_CASES: [Case<Band, Gauges>; 2] = [
+pub(crate) static BAND_CASES: [Case<Band, Gauges>; 2] = [
     Case {
         lines: &[Line {
             number: 1,
@@ -193,7 +193,7 @@ fn enter_line(book: &mut OpenBook<'_, LetterCell>, line: &Line<u8>) -> Result<()
 }
 
 /// Whether all lines were entered.
-pub fn enter_letters(book: &mut OpenBook<'_, LetterCell>, lines: &[Line<u8>]) -> bool {
+pub(crate) fn enter_letters(book: &mut OpenBook<'_, LetterCell>, lines: &[Line<u8>]) -> bool {
     let mut all = true;
     for line in lines {
         all = enter_line(book, line).is_ok() && all;
@@ -224,7 +224,7 @@ fn enter_band_line(book: &mut OpenBook<'_, BandCell>, line: &Line<Band>) -> Resu
 }
 
 /// Whether all lines were entered.
-pub fn enter_bands(book: &mut OpenBook<'_, BandCell>, lines: &[Line<Band>]) -> bool {
+pub(crate) fn enter_bands(book: &mut OpenBook<'_, BandCell>, lines: &[Line<Band>]) -> bool {
     let mut all = true;
     for line in lines {
         all = enter_band_line(book, line).is_ok() && all;
@@ -242,7 +242,7 @@ fn just<C: Cell, F: Finder<C>>(finder: &F, ended: &[usize]) -> bool {
 }
 
 /// Whether a finder finds, tick by tick, the keywords that have ended; and finds none after a clear.
-pub fn finds<C: Cell, F: Finder<C>>(
+pub(crate) fn finds<C: Cell, F: Finder<C>>(
     finder: &mut F,
     trace: &[C::Sample],
     ended: &[&[usize]],
