@@ -1,0 +1,3 @@
+pub mod Layings
+pub mod Prefixed
+pub mod InBook
