@@ -1,0 +1,5 @@
+pub mod Calls
+pub mod Standing
+pub mod Reports
+pub mod Points
+pub mod Answers
