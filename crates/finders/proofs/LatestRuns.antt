@@ -114,13 +114,16 @@ module _ {C S : Type 0} (admits : C → S → Bool) (y : S) (ys : List S) where
         (cases-lt j (length w))
 
 module _ {C S : Type 0} (admits : C → S → Bool) where
-  -- one symbol more
-  pub taken-run : (b : Book C) (stood : ℕ → Bool) (symbols : List S) (y : S) → ((p : ℕ) → stood p ≡ run admits b symbols p) → (p : ℕ) → taken b (λ c. admits c y) stood p ≡ run admits b (symbols ++ y ∷ []) p
-  taken-run b stood symbols y e p =
+  -- one symbol more, the newest first
+  pub taken-newest : (b : Book C) (stood : ℕ → Bool) (newest : List S) (y : S) → ((p : ℕ) → stood p ≡ runs-among admits (all-keywords b) newest p) → (p : ℕ) → taken b (λ c. admits c y) stood p ≡ runs-among admits (all-keywords b) (y ∷ newest) p
+  taken-newest b stood newest y e p =
       let z : p ≡ 0 + p = omega arith in
       ap (λ q. passes (λ c. admits c y) (all-cells b) p && (among q (map (λ k. k .first) (keyword-rows b)) || (ltb 0 q && stood (q - 1)))) z
-      ∙ step admits y (reverse symbols) stood (all-keywords b) (all-gaps b) 0 (λ j. let w : 0 + j ≡ j = omega arith in ap stood w ∙ e j) p
-      ∙ ap (λ ys. runs-among admits (all-keywords b) ys p) (sym (reverse-append symbols (y ∷ [])))
+      ∙ step admits y newest stood (all-keywords b) (all-gaps b) 0 (λ j. let w : 0 + j ≡ j = omega arith in ap stood w ∙ e j) p
+
+  -- and in the order in which they were taken
+  pub taken-run : (b : Book C) (stood : ℕ → Bool) (symbols : List S) (y : S) → ((p : ℕ) → stood p ≡ run admits b symbols p) → (p : ℕ) → taken b (λ c. admits c y) stood p ≡ run admits b (symbols ++ y ∷ []) p
+  taken-run b stood symbols y e p = taken-newest b stood (reverse symbols) y e p ∙ ap (λ ys. runs-among admits (all-keywords b) ys p) (sym (reverse-append symbols (y ∷ [])))
 
   never-empty : (w : List C) (p : ℕ) → p < length w → admit-all admits (reverse (take (p + 1) w)) [] ≡ false
   never-empty [] p h = absurd (let z : ⊥ = omega arith in z)

@@ -11,7 +11,7 @@ ghost use Prim.Native.Nat.{ℕ, _+_, _<_, _≤_};
 ghost use lib.ListN.{length};
 ghost use Rattle.book.specs.declared.rows.LineRow.{LineRow};
 ghost use Rattle.book.specs.declared.rows.KeywordRow.{KeywordRow};
-ghost use Rattle.book.specs.Proper.{AllFit};
+ghost use Rattle.book.specs.Proper.{AllFit, Proper};
 ghost use Rattle.book.specs.Rows.{line-rows, keyword-rows};
 ghost use Rattle.columns.specs.Marks.{mark};
 ghost use Rattle.lookback.specs.Apart.{Own-marks};
@@ -22,7 +22,8 @@ ghost use Rattle.lookback.specs.Ticking.{Shows, Ticks};
 impl Lookback {
     /// A ring for the keywords that a finder spots, before the first tick.
     pub fn new<C: Cell, F: Finder<C>>(finder: &F) -> Lookback
-        ensures { λ r. ⌜ Represents r (line-rows (F·Finder .book (now (finder .entry)))) (keyword-rows (F·Finder .book (now (finder .entry)))) [] ⌝ }
+        ensures ring { λ r. ⌜ Represents r (line-rows (F·Finder .book (now (finder .entry)))) (keyword-rows (F·Finder .book (now (finder .entry)))) [] ⌝ }
+        ensures proper { λ _. ⌜ Proper (F·Finder .book (now (finder .entry))) ⌝ }
     {
         let links = Links::of(finder.lines(), finder.keywords());
         Lookback::over(links)
