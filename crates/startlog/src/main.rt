@@ -4,6 +4,8 @@ mod example;
 mod finding;
 mod showing;
 
+use automaton::letters::LetterAutomaton;
+use automaton::letters::NUMBERS;
 use book::open::OpenBook;
 use cells::letters::LetterCell;
 use cells::letters::admitting::LetterKind;
@@ -27,7 +29,9 @@ fn run(rt: &impl Print) -> Result<(), AnyError> {
     }
     let sealed = book.seal();
     showing::show(rt, &sealed)?;
-    finding::watch(rt, sealed, example::TRACE)?;
+    let mut numbers = [0u16; NUMBERS];
+    let mut finder = LetterAutomaton::new(sealed, &mut numbers);
+    finding::watch(rt, &mut finder, example::TRACE)?;
     Ok(())
 }
 

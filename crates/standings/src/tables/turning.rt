@@ -37,7 +37,9 @@ impl Standings {
     pub fn new(lines: &[LineRow]) -> Standings
         ensures { λ r. ⌜ ((n : ℕ) → standing-at r n ≡ first-standing (now (lines .entry)) n) ⌝ }
     {
-        Standings { at: all_armed(lines) }
+        Standings {
+            at: all_armed(lines),
+        }
     }
 
     /// The standing of a number: absent for one that is no line's.

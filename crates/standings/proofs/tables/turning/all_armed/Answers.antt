@@ -38,19 +38,19 @@ module _ (at : List Standing) (long : length at ≡ 128) (ns : List ℕ) (n : �
   more j h e =
       ⊎-elim
       (λ inside.
-        let p = and-parts (leb 1 n) _ inside in
-        let low = leb-true 1 n (p .0) in
-        let high = leb-true n 128 (p .1) in
-        ap (λ b. getD (cond b (set at (n - 1) (Armed 0)) at) j Absent) inside
-        ∙ ⊎-elim
-          (λ same. ap (λ i. getD (set at (n - 1) (Armed 0)) i Absent) same ∙ getD-set-same at (n - 1) (Armed 0) Absent (omega arith)
-            ∙ sym (ap armed (among-push (j + 1) ns n ∙ ap (λ b. b || among (j + 1) ns) (eq-eqb n (j + 1) (omega (arith, same, low))))))
-          (λ other. getD-set-other at (n - 1) j (Armed 0) Absent other ∙ e
-            ∙ sym (ap armed (among-push (j + 1) ns n ∙ ap (λ b. b || among (j + 1) ns) (ne-eqb n (j + 1) (λ q. other (omega (arith, q)))))))
-          (cases-eq j (n - 1)))
+      let p = and-parts (leb 1 n) _ inside in
+      let low = leb-true 1 n (p .0) in
+      let high = leb-true n 128 (p .1) in
+      ap (λ b. getD (cond b (set at (n - 1) (Armed 0)) at) j Absent) inside
+      ∙ ⊎-elim
+      (λ same. ap (λ i. getD (set at (n - 1) (Armed 0)) i Absent) same ∙ getD-set-same at (n - 1) (Armed 0) Absent (omega arith)
+      ∙ sym (ap armed (among-push (j + 1) ns n ∙ ap (λ b. b || among (j + 1) ns) (eq-eqb n (j + 1) (omega (arith, same, low))))))
+      (λ other. getD-set-other at (n - 1) j (Armed 0) Absent other ∙ e
+      ∙ sym (ap armed (among-push (j + 1) ns n ∙ ap (λ b. b || among (j + 1) ns) (ne-eqb n (j + 1) (λ q. other (omega (arith, q)))))))
+      (cases-eq j (n - 1)))
       (λ outside.
-        ap (λ b. getD (cond b (set at (n - 1) (Armed 0)) at) j Absent) outside ∙ e
-        ∙ sym (ap armed (among-push (j + 1) ns n ∙ ap (λ b. b || among (j + 1) ns) (ne-eqb n (j + 1) (λ q. both-ways (within 1 128 n) outside (and-from _ _ (le-leb 1 n (omega (arith, q))) (le-leb n 128 (omega (arith, q)))))))))
+      ap (λ b. getD (cond b (set at (n - 1) (Armed 0)) at) j Absent) outside ∙ e
+      ∙ sym (ap armed (among-push (j + 1) ns n ∙ ap (λ b. b || among (j + 1) ns) (ne-eqb n (j + 1) (λ q. both-ways (within 1 128 n) outside (and-from _ _ (le-leb 1 n (omega (arith, q))) (le-leb n 128 (omega (arith, q)))))))))
       (cases-bool (within 1 128 n))
 
   still-long : length table ≡ 128
@@ -67,20 +67,21 @@ loop-line-again c =
     let i = c .loop-line .line-index in
     let n = getD ls i none .number in
     let step = map-more (λ x. x .number) ls i none (c .loop-line-test .taken) in
-    let ns = map (λ x. x .number) (take i ls) in
-    (
+    let ns = map (λ x. x .number) (take i ls) in (
       ap length (c .arm-at-first .ensures) ∙ still-long (c .loop-line .at) (c .loop-line .inv .0) ns n,
       λ j h. ap (λ x. getD x j Absent) (c .arm-at-first .ensures) ∙ more (c .loop-line .at) (c .loop-line .inv .0) ns n j h (c .loop-line .inv .1 j h) ∙ ap (λ xs. armed (among (j + 1) xs)) (sym step),
     )
 
 pub returns : need.returns
 unfolding armed
-returns c = record { whole = c .loop-line .inv .0; standings = λ n.
-    let ls = c .args .lines .now in
-    let at = c .loop-line .at in
-    let all = take-all (c .loop-line .line-index) ls (c .loop-line-test .left) in
-    ⊎-elim
-    (λ inside.
+returns c = record {
+  whole = c .loop-line .inv .0;
+  standings = λ n.
+      let ls = c .args .lines .now in
+      let at = c .loop-line .at in
+      let all = take-all (c .loop-line .line-index) ls (c .loop-line-test .left) in
+      ⊎-elim
+      (λ inside.
       let p = and-parts (leb 1 n) _ inside in
       let low = leb-true 1 n (p .0) in
       let high = leb-true n 128 (p .1) in
@@ -89,5 +90,6 @@ returns c = record { whole = c .loop-line .inv .0; standings = λ n.
       ∙ c .loop-line .inv .1 (n - 1) (omega arith)
       ∙ (λ i. armed (among (z i) (map (λ x. x .number) (all i))))
       ∙ sym (ap (λ b. cond (b && among n (map (λ x. x .number) ls)) (Armed 0) Absent) inside))
-    (λ outside. ap (λ b. cond b (getD at (n - 1) Absent) Absent) outside ∙ sym (ap (λ b. cond (b && among n (map (λ x. x .number) ls)) (Armed 0) Absent) outside))
-    (cases-bool (within 1 128 n)) }
+      (λ outside. ap (λ b. cond b (getD at (n - 1) Absent) Absent) outside ∙ sym (ap (λ b. cond (b && among n (map (λ x. x .number) ls)) (Armed 0) Absent) outside))
+      (cases-bool (within 1 128 n));
+}

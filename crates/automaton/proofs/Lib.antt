@@ -1,0 +1,10 @@
+pub mod Walks
+pub mod Keywords
+pub mod Grows
+pub mod Steps
+pub mod Counts
+pub mod Breadths
+pub mod Stands
+pub mod Words
+pub mod Spots
+pub mod Longest

@@ -1,0 +1,10 @@
+pub mod Memory
+pub mod Walk
+pub mod Places
+pub mod Trie
+pub mod Pass
+pub mod Breadth
+pub mod Linked
+pub mod Standing
+pub mod Meaning
+pub mod Labels
