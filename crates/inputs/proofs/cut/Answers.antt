@@ -7,12 +7,12 @@ pub returns : goal.returns
 returns c =
     let xs = c.args.input.now in
     let at = c.args.at in
-    let back = c.split-at.ensures.back in
-    let long = c.split-at.ensures.back_len in
-    let n = c.split-at.result.1.now in
-    let rest = c.split-at-2.ensures.back ∙ (λ i. drop (c.min.ensures i) (back i)) in
+    let back = c.split_at.ensures.back in
+    let long = c.split_at.ensures.back_len in
+    let n = c.split_at.result.1.now in
+    let rest = c.split_at-2.ensures.back ∙ (λ i. drop (c.min.ensures i) (back i)) in
     record {
-      front = c.split-at.ensures.front;
+      front = c.split_at.ensures.front;
       back =
           ⊎_elim
           (λ some. let more : 0 < length n = some in let z : min (length n) 1 ≡ 1 = omega arith in rest ∙ ap (λ k. drop k (drop at xs)) z ∙ drop-drop 1 at xs)

@@ -18,8 +18,8 @@ loop-state-init c =
     c.put.ensures.items ∙ ap (λ (xs : List ℕ). put_after xs (room c.new-queue.result) 0) c.new-queue.ensures.items ∙ ap (λ (n : ℕ). put_after {T = ℕ} [] n 0) (c.new-queue.ensures.room ∙ c.requires.slots) in
     (λ w B. between_same w _ _ _ 1 q B, c.put.ensures.room ∙ c.new-queue.ensures.room ∙ c.requires.slots, refl)
 
-pub settle-state-turn-requires : goal.settle-state-turn-requires
-settle-state-turn-requires c =
+pub settle_state-turn-requires : goal.settle_state-turn-requires
+settle_state-turn-requires c =
     let e = oldest_first _ _ (sym c.in-Some.ensures.result) ∙ ap (λ xs. c.in-Some.state ∷ xs) (sym c.in-Some.ensures.items) in
     let w = c.requires.trie.0 in
     let B = between_none w _ _ _ _ c.requires.trie.1.1 c.requires.next (c.wipe.auto.part ∙ c.requires.fail) (c.wipe-2.auto.part ∙ c.requires.turns) c.wipe.ensures c.wipe-2.ensures in
@@ -35,15 +35,15 @@ loop-state-smaller c =
     let B = between_none w _ _ _ _ c.requires.trie.1.1 c.requires.next (c.wipe.auto.part ∙ c.requires.fail) (c.wipe-2.auto.part ∙ c.requires.turns) c.wipe.ensures c.wipe-2.ensures in
     let I = c.loop-state.invariant.0 w B in
     let R = within_first w _ _ _ _ _ _ _ e I in
-    let D = c.settle-state-turn.ensures.within w R in
-    omega (arith, I.last, R.last, D.last, c.settle-state-turn.ensures.turn, stored_few _ _ _ _ _ _ I.stored, ap length e)
+    let D = c.settle_state-turn.ensures.within w R in
+    omega (arith, I.last, R.last, D.last, c.settle_state-turn.ensures.turn, stored_few _ _ _ _ _ _ I.stored, ap length e)
 
 pub loop-state-preserved : goal.loop-state-preserved
 loop-state-preserved c =
     let e = oldest_first _ _ (sym c.in-Some.ensures.result) ∙ ap (λ xs. c.in-Some.state ∷ xs) (sym c.in-Some.ensures.items) in (
-      λ w B. within_done w _ _ _ _ _ _ (c.settle-state-turn.ensures.within w (within_first w _ _ _ _ _ _ _ e (c.loop-state.invariant.0 w B))),
-      c.settle-state-turn.ensures.room,
-      c.settle-state-turn.ensures.lender ∙ c.in-Some.ensures.lender ∙ c.loop-state.invariant.2,
+      λ w B. within_done w _ _ _ _ _ _ (c.settle_state-turn.ensures.within w (within_first w _ _ _ _ _ _ _ e (c.loop-state.invariant.0 w B))),
+      c.settle_state-turn.ensures.room,
+      c.settle_state-turn.ensures.lender ∙ c.in-Some.ensures.lender ∙ c.loop-state.invariant.2,
     )
 
 pub returns : goal.returns

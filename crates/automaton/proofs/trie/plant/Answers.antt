@@ -7,8 +7,8 @@ use Rattle.automaton.proofs.trie.plant.Goals as goal
 pub loop-keyword-init : goal.loop-keyword-init
 loop-keyword-init c = plant_none _ _ _ (omega (arith, c.wipe.auto.part, c.requires.next)) c.requires.states c.wipe.ensures
 
-pub plant-keyword-made-requires : goal.plant-keyword-made-requires
-plant-keyword-made-requires c =
+pub plant_keyword-made-requires : goal.plant_keyword-made-requires
+plant_keyword-made-requires c =
     let rows = c.keywords-keyword-items.ensures in
     let t = told (sealed_book c.args.book.now) _ c.loop-keyword.keyword-index (record { gap = 0; first = 0; length = 0 }) rows.rows rows.fit c.loop-keyword-test.true in
     record { planted = planted_to _ _ _ _ _ _ (sym t.first) c.loop-keyword.invariant; lies = t.lies }
@@ -17,7 +17,7 @@ pub loop-keyword-preserved : goal.loop-keyword-preserved
 loop-keyword-preserved c =
     let rows = c.keywords-keyword-items.ensures in
     let t = told (sealed_book c.args.book.now) _ c.loop-keyword.keyword-index (record { gap = 0; first = 0; length = 0 }) rows.rows rows.fit c.loop-keyword-test.true in
-    planted_to _ _ _ _ _ _ t.end c.plant-keyword-made.ensures
+    planted_to _ _ _ _ _ _ t.end c.plant_keyword-made.ensures
 
 pub returns : goal.returns
 returns c =

@@ -7,8 +7,8 @@ use Rattle.automaton.proofs.trie.plant_keyword.Goals as goal
 pub loop-i-init : goal.loop-i-init
 loop-i-init c = (planted_to _ _ _ _ _ _ (let e : c.args.keyword.first ≡ c.args.keyword.first + 0 = omega arith in e) c.requires.planted, refl)
 
-pub plant-letter-made-requires : goal.plant-letter-made-requires
-plant-letter-made-requires c =
+pub plant_letter-made-requires : goal.plant_letter-made-requires
+plant_letter-made-requires c =
     let i = c.loop-i.i in
     let p = c.args.keyword.first + c.loop-i.i in
     record {
@@ -18,16 +18,16 @@ plant-letter-made-requires c =
     }
 
 pub bounds-states-first : goal.bounds-states-first
-bounds-states-first c = omega (arith, c.requires.lies.room, c.plant-letter-made.ensures.states_long)
+bounds-states-first c = omega (arith, c.requires.lies.room, c.plant_letter-made.ensures.states_long)
 
 pub loop-i-preserved : goal.loop-i-preserved
 loop-i-preserved c =
     let f = c.args.keyword.first in
     let i = c.loop-i.i in
-    let states = c.plant-letter-made.new.states in
+    let states = c.plant_letter-made.new.states in
     let e : f + i + 1 ≡ f + (i + 1) = omega arith in
     let back : f + (i + 1) - 1 ≡ f + i = omega arith in (
-      planted_to _ _ _ _ _ _ e c.plant-letter-made.ensures,
+      planted_to _ _ _ _ _ _ e c.plant_letter-made.ensures,
       sym (ap (λ b. cond b 0 (at states (f + (i + 1) - 1))) (ne_eqb (i + 1) 0 (λ z. omega arith)) ∙ ap (at states) back),
     )
 

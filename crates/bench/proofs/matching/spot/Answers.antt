@@ -21,7 +21,7 @@ returns g c =
           let later = next b newest s r heard in
           record {
             ended = (
-              (λ k. c.ended-all.ensures k ∙ ap (λ x. ends x (g.F.Finder.stands c.take.new.self) k) later.of ∙ spots hears (s ∷ newest) b (g.F.Finder.stands c.take.new.self) k later.proper.each later.runs),
+              (λ k. c.ended_all.ensures k ∙ ap (λ x. ends x (g.F.Finder.stands c.take.new.self) k) later.of ∙ spots hears (s ∷ newest) b (g.F.Finder.stands c.take.new.self) k later.proper.each later.runs),
               past_book hears (s ∷ newest) b,
             );
           };

@@ -26,17 +26,17 @@ module _ {rows : List KeywordRow} {from place : ℕ} {lengths gaps : List ℕ} (
 pub loop-i-init : goal.loop-i-init
 loop-i-init c = (paste-zero c.args.rows.now c.args.from (keyword_rows_from c.args.place (0 ∷ c.args.gaps.now) c.args.lengths.now), omega arith)
 
-pub overflow-cast-rows : goal.overflow-cast-rows
-overflow-cast-rows c = let n = narrow c.requires c.loop-i.i c.loop-i-test.true in omega (arith, c.gap-before-gap.ensures)
+pub overflow_cast-rows : goal.overflow_cast-rows
+overflow_cast-rows c = let n = narrow c.requires c.loop-i.i c.loop-i-test.true in omega (arith, c.gap_before-gap.ensures)
 
-pub overflow-cast-rows-in-loop-i : goal.overflow-cast-rows-in-loop-i
-overflow-cast-rows-in-loop-i c = let n = next c.requires c.loop-i.i c.loop-i-test.true in omega (arith, c.loop-i.invariant.1)
+pub overflow_cast-rows-in-loop-i : goal.overflow_cast-rows-in-loop-i
+overflow_cast-rows-in-loop-i c = let n = next c.requires c.loop-i.i c.loop-i-test.true in omega (arith, c.loop-i.invariant.1)
 
-pub overflow-cast-rows-in-loop-i-2 : goal.overflow-cast-rows-in-loop-i-2
-overflow-cast-rows-in-loop-i-2 c = let n = short c.requires c.loop-i.i c.loop-i-test.true in omega arith
+pub overflow_cast-rows-in-loop-i-2 : goal.overflow_cast-rows-in-loop-i-2
+overflow_cast-rows-in-loop-i-2 c = let n = short c.requires c.loop-i.i c.loop-i-test.true in omega arith
 
-pub overflow-add-first : goal.overflow-add-first
-overflow-add-first c = let n = next c.requires c.loop-i.i c.loop-i-test.true in omega (arith, c.loop-i.invariant.1)
+pub overflow_add-first : goal.overflow_add-first
+overflow_add-first c = let n = next c.requires c.loop-i.i c.loop-i-test.true in omega (arith, c.loop-i.invariant.1)
 
 pub loop-i-preserved : goal.loop-i-preserved
 loop-i-preserved c =
@@ -45,8 +45,8 @@ loop-i-preserved c =
     let ns = c.args.lengths.now in
     let all = keyword_rows_from c.args.place gs ns in
     let even : length gs ≡ length ns = omega (arith, c.requires.between) in
-    let x : KeywordRow = record { gap = c.gap-before-gap.result; first = c.loop-i.first; length = get_or ns i 0 } in
-    let is : x ≡ get_or all i x = (λ k. record { gap = c.gap-before-gap.ensures k; first = c.loop-i.invariant.1 k; length = get_or ns i 0 }) ∙ sym (row_at c.args.place gs ns i x even c.loop-i-test.true) in
+    let x : KeywordRow = record { gap = c.gap_before-gap.result; first = c.loop-i.first; length = get_or ns i 0 } in
+    let is : x ≡ get_or all i x = (λ k. record { gap = c.gap_before-gap.ensures k; first = c.loop-i.invariant.1 k; length = get_or ns i 0 }) ∙ sym (row_at c.args.place gs ns i x even c.loop-i-test.true) in
     let n = rows-length c.args.place gs ns even in (
       copied_more c.args.rows.now all c.loop-i.rows c.args.from i x c.loop-i.invariant.0 is (omega (arith, c.requires.row_room)) (omega (arith, n)),
       (let t = total_more ns i c.loop-i-test.true in omega (arith, c.loop-i.invariant.1)),

@@ -57,7 +57,7 @@ returns-in-Err c =
     let b = c.args.book.now in
     let p : to_z w32 (of_z w32 d.points) ≡ d.points = search rules in
     let e = lent_is d (to_z w32 (of_z w32 d.points)) p c.requires in
-    let column = c.column-of.ensures ∙ ap (λ gaps. book_column gaps c.in-Err.refusal) (gaps_lent d c.requires) in
+    let column = c.column_of.ensures ∙ ap (λ gaps. book_column gaps c.in-Err.refusal) (gaps_lent d c.requires) in
     record {
       answer = ap (λ k. Some (record { refusal = c.in-Err.refusal; layer = layer.Book; column = k })) column
           ∙ ap (book_flaw (draft_request d).gaps) (c.in-Err.ensures.answer ∙ ap (enter_answer (open_book b) (places b)) e);

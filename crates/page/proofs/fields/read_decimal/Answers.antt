@@ -7,14 +7,14 @@ pub returns-in-Some : goal.returns-in-Some
 unfolding decimal_in
 returns-in-Some c =
     let f = c.args.field.now in
-    let r = take_rest f c.count-blanks-from.result in
-    let n = c.count-blanks-from.ensures.count in
+    let r = take_rest f c.count_blanks-from.result in
+    let n = c.count_blanks-from.ensures.count in
     c.in-Some.ensures.value ∙ ap whole_of (r ∙ ap (λ i. drop i f) n)
 
 pub returns-in-None : goal.returns-in-None
 unfolding decimal_in
 returns-in-None c =
     let f = c.args.field.now in
-    let r = take_rest f c.count-blanks-from.result in
-    let n = c.count-blanks-from.ensures.count in
+    let r = take_rest f c.count_blanks-from.result in
+    let n = c.count_blanks-from.ensures.count in
     c.in-None.ensures.value ∙ ap whole_of (r ∙ ap (λ i. drop i f) n)

@@ -9,41 +9,41 @@ use Rattle.page.proofs.fields.read_points.Goals.{else-from-field-via-then-from-f
 pub returns-in-Some : goal.returns-in-Some
 returns-in-Some c =
     let f = c.args.field.now in
-    let n = c.count-blanks-from.result in
-    let p = points_minus f n c.count-blanks-from.ensures.count c.if-field-from-eq-MINUS.true in
+    let n = c.count_blanks-from.result in
+    let p = points_minus f n c.count_blanks-from.ensures.count c.if-field-from-eq-MINUS.true in
     c.negated.ensures ∙ ap below_zero (c.in-Some.ensures.value ∙ ap whole_of (take_rest f (n + 1))) ∙ sym p
 
 pub returns-in-None : goal.returns-in-None
 returns-in-None c =
     let f = c.args.field.now in
-    let n = c.count-blanks-from.result in
-    let p = points_minus f n c.count-blanks-from.ensures.count c.if-field-from-eq-MINUS.true in
+    let n = c.count_blanks-from.result in
+    let p = points_minus f n c.count_blanks-from.ensures.count c.if-field-from-eq-MINUS.true in
     ap below_zero (c.in-None.ensures.value ∙ ap whole_of (take_rest f (n + 1))) ∙ sym p
 
-pub returns-in-Some-read-whole : goal.returns-in-Some-read-whole
-returns-in-Some-read-whole c =
+pub returns-in-Some-read_whole : goal.returns-in-Some-read_whole
+returns-in-Some-read_whole c =
     let f = c.args.field.now in
-    let n = c.count-blanks-from.result in
+    let n = c.count_blanks-from.result in
     let other : get_or f n 0 ≡ 45 → ⊥ =
     elim c.else-from-field.branch [
       | else-from-field-via-then-from-field+else-field-from-eq-MINUS w ↦ w.if-field-from-eq-MINUS.false
       | else-from-field-via-else-from-field w ↦ (λ e. let z = get_or_past f n 0 w.if-from-field.false in omega arith)
     ] in
-    let p = points_plain f n c.count-blanks-from.ensures.count other in
+    let p = points_plain f n c.count_blanks-from.ensures.count other in
     let l : length (take (length f - n) (drop n f)) ≤ 5 = simp (length-take, length-drop) (omega arith) in
     let t = ten_most (length (take (length f - n) (drop n f))) 5 l in
-    let s = c.in-Some-read-whole.ensures.small in
-    let z : to_z w32 c.in-Some-read-whole.value ≡ pos c.in-Some-read-whole.value = omega (arith, ints, t, s) in
-    ap Some z ∙ ap not_below (c.in-Some-read-whole.ensures.value ∙ ap whole_of (take_rest f n)) ∙ sym p
+    let s = c.in-Some-read_whole.ensures.small in
+    let z : to_z w32 c.in-Some-read_whole.value ≡ pos c.in-Some-read_whole.value = omega (arith, ints, t, s) in
+    ap Some z ∙ ap not_below (c.in-Some-read_whole.ensures.value ∙ ap whole_of (take_rest f n)) ∙ sym p
 
-pub returns-in-None-read-whole : goal.returns-in-None-read-whole
-returns-in-None-read-whole c =
+pub returns-in-None-read_whole : goal.returns-in-None-read_whole
+returns-in-None-read_whole c =
     let f = c.args.field.now in
-    let n = c.count-blanks-from.result in
+    let n = c.count_blanks-from.result in
     let other : get_or f n 0 ≡ 45 → ⊥ =
     elim c.else-from-field.branch [
       | else-from-field-via-then-from-field+else-field-from-eq-MINUS w ↦ w.if-field-from-eq-MINUS.false
       | else-from-field-via-else-from-field w ↦ (λ e. let z = get_or_past f n 0 w.if-from-field.false in omega arith)
     ] in
-    let p = points_plain f n c.count-blanks-from.ensures.count other in
-    ap not_below (c.in-None-read-whole.ensures.value ∙ ap whole_of (take_rest f n)) ∙ sym p
+    let p = points_plain f n c.count_blanks-from.ensures.count other in
+    ap not_below (c.in-None-read_whole.ensures.value ∙ ap whole_of (take_rest f n)) ∙ sym p

@@ -5,9 +5,9 @@ use Rattle.page.specs.Decimals.{whole_of}
 use Rattle.page.proofs.Steps.{value_step, value_end, digits_step, digits_end, ten_more, ten_most, digit_is}
 use Rattle.page.proofs.fields.read_whole.Goals as goal
 
-pub returns-then-not-is-digit : goal.returns-then-not-is-digit
+pub returns-then-not-is_digit : goal.returns-then-not-is_digit
 unfolding whole_of
-returns-then-not-is-digit c =
+returns-then-not-is_digit c =
     let s = digits_step c.args.digits.now c.loop-digit.digit-index (omega arith) in
     record { value = grind (arith, nat_tests); small = search rules }
 
@@ -33,6 +33,6 @@ returns c =
     let t = ten_most i (length ds) (omega arith) in
     record { value = grind (arith, nat_tests); small = omega (arith, t) }
 
-pub returns-then-not-starts-well : goal.returns-then-not-starts-well
+pub returns-then-not-starts_well : goal.returns-then-not-starts_well
 unfolding whole_of
-returns-then-not-starts-well c = record { value = grind (arith, nat_tests); small = search rules }
+returns-then-not-starts_well c = record { value = grind (arith, nat_tests); small = search rules }

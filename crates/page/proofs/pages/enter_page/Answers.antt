@@ -16,27 +16,27 @@ pub rows-preserved : goal.rows-preserved
 rows-preserved c =
     let page = c.args.page.now in
     let start = c.rows.start in
-    let end = c.row-end-end.result in
+    let end = c.row_end-end.result in
     let row = take (end - start) (drop start page) in
     let b = open_book c.rows.book in
     let cells = c.rows.book.cells.now in
     let d = c.blocks-2.draft in
     let inv = c.rows.invariant in
-    let whole : d.keywords ≡ keywords_in (length row) = c.if-draft-keywords.true ∙ c.count-keywords-keywords.ensures in
-    let flaw = row_told b (length cells) row d c.blocks-2.invariant.0 whole ∙ sym c.in-default-enter-draft.ensures.answer in
+    let whole : d.keywords ≡ keywords_in (length row) = c.if-draft-keywords.true ∙ c.count_keywords-keywords.ensures in
+    let flaw = row_told b (length cells) row d c.blocks-2.invariant.0 whole ∙ sym c.in-default-enter_draft.ensures.answer in
     let line = read_line row d c.blocks-2.invariant.0 whole in
-    let next = c.next-start-start.ensures in
-    let rest = next_rows page end c.next-start-start.result next.behind next.last in
-    let further = next_further start (length page) end c.next-start-start.result (omega arith) c.row-end-end.ensures.from next.behind next.last in (
-      ap (λ bs. enter_rows (c.rows.number + 1) (rows_of bs) (open_book c.enter-draft.new.book) c.enter-draft.new.book.cells.now) rest
-          ∙ ap (λ x. enter_rows (c.rows.number + 1) (rows_of (drop (end + 1) page)) x c.enter-draft.new.book.cells.now) (c.in-default-enter-draft.ensures.book ∙ ap (entered b (length cells)) (sym line))
-          ∙ ap (enter_rows (c.rows.number + 1) (rows_of (drop (end + 1) page)) _) (c.in-default-enter-draft.ensures.memory ∙ ap (cells_after b cells) (sym line))
+    let next = c.next_start-start.ensures in
+    let rest = next_rows page end c.next_start-start.result next.behind next.last in
+    let further = next_further start (length page) end c.next_start-start.result (omega arith) c.row_end-end.ensures.from next.behind next.last in (
+      ap (λ bs. enter_rows (c.rows.number + 1) (rows_of bs) (open_book c.enter_draft.new.book) c.enter_draft.new.book.cells.now) rest
+          ∙ ap (λ x. enter_rows (c.rows.number + 1) (rows_of (drop (end + 1) page)) x c.enter_draft.new.book.cells.now) (c.in-default-enter_draft.ensures.book ∙ ap (entered b (length cells)) (sym line))
+          ∙ ap (enter_rows (c.rows.number + 1) (rows_of (drop (end + 1) page)) _) (c.in-default-enter_draft.ensures.memory ∙ ap (cells_after b cells) (sym line))
           ∙ sym (row_goes c.rows.number row (rows_of (drop (end + 1) page)) b cells flaw)
-          ∙ ap (λ rows. enter_rows c.rows.number rows b cells) (sym c.row-end-end.ensures.rows)
+          ∙ ap (λ rows. enter_rows c.rows.number rows b cells) (sym c.row_end-end.ensures.rows)
           ∙ inv.0,
       next.within,
       omega arith,
-      c.in-default-enter-draft.ensures.lender ∙ inv.3,
+      c.in-default-enter_draft.ensures.lender ∙ inv.3,
     )
 
 pub returns-then-start-page : goal.returns-then-start-page
@@ -55,8 +55,8 @@ returns-then-start-page c =
 pub returns-in-Err : goal.returns-in-Err
 returns-in-Err c =
     let b = c.rows.book in
-    let row = take (c.row-end-end.result - c.rows.start) (drop c.rows.start c.args.page.now) in
-    let e = stopped c.rows.number row _ _ (open_book b) b.cells.now _ c.in-Err.flaw c.rows.invariant.0 c.row-end-end.ensures.rows
+    let row = take (c.row_end-end.result - c.rows.start) (drop c.rows.start c.args.page.now) in
+    let e = stopped c.rows.number row _ _ (open_book b) b.cells.now _ c.in-Err.flaw c.rows.invariant.0 c.row_end-end.ensures.rows
     (row_own (open_book b) (length b.cells.now) row c.in-Err.flaw c.in-Err.ensures) in
     record {
       answer = ap Err c.at.ensures ∙ sym (ap (λ (o : Outcome). o.answer) e);
@@ -67,15 +67,15 @@ returns-in-Err c =
       lines = enters_lines;
     }
 
-pub returns-in-Err-read-keyword : goal.returns-in-Err-read-keyword
-returns-in-Err-read-keyword c =
+pub returns-in-Err-read_keyword : goal.returns-in-Err-read_keyword
+returns-in-Err-read_keyword c =
     let b = c.rows.book in
-    let row = take (c.row-end-end.result - c.rows.start) (drop c.rows.start c.args.page.now) in
-    let f = c.in-Err-read-keyword.flaw in
-    let e = stopped c.rows.number row _ _ (open_book b) b.cells.now _ f c.rows.invariant.0 c.row-end-end.ensures.rows
-    (row_own (open_book b) (length b.cells.now) row f c.in-Err-read-keyword.ensures) in
+    let row = take (c.row_end-end.result - c.rows.start) (drop c.rows.start c.args.page.now) in
+    let f = c.in-Err-read_keyword.flaw in
+    let e = stopped c.rows.number row _ _ (open_book b) b.cells.now _ f c.rows.invariant.0 c.row_end-end.ensures.rows
+    (row_own (open_book b) (length b.cells.now) row f c.in-Err-read_keyword.ensures) in
     record {
-      answer = ap Err c.at-in-Err-read-keyword.ensures ∙ sym (ap (λ (o : Outcome). o.answer) e);
+      answer = ap Err c.at-in-Err-read_keyword.ensures ∙ sym (ap (λ (o : Outcome). o.answer) e);
       book = sym (ap (λ (o : Outcome). o.book) e);
       memory = sym (ap (λ (o : Outcome). o.cells) e);
       lender = c.rows.invariant.3;
@@ -83,19 +83,19 @@ returns-in-Err-read-keyword c =
       lines = enters_lines;
     }
 
-pub returns-in-Err-enter-draft : goal.returns-in-Err-enter-draft
-returns-in-Err-enter-draft c =
+pub returns-in-Err-enter_draft : goal.returns-in-Err-enter_draft
+returns-in-Err-enter_draft c =
     let b = open_book c.rows.book in
     let cells = c.rows.book.cells.now in
-    let row = take (c.row-end-end.result - c.rows.start) (drop c.rows.start c.args.page.now) in
+    let row = take (c.row_end-end.result - c.rows.start) (drop c.rows.start c.args.page.now) in
     let d = c.blocks-2.draft in
-    let f = c.in-Err-enter-draft.flaw in
-    let told = c.in-Err-enter-draft.ensures in
-    let whole : d.keywords ≡ keywords_in (length row) = c.if-draft-keywords.true ∙ c.count-keywords-keywords.ensures in
+    let f = c.in-Err-enter_draft.flaw in
+    let told = c.in-Err-enter_draft.ensures in
+    let whole : d.keywords ≡ keywords_in (length row) = c.if-draft-keywords.true ∙ c.count_keywords-keywords.ensures in
     let flaw = row_told b (length cells) row d c.blocks-2.invariant.0 whole ∙ sym told.answer in
-    let e = stopped c.rows.number row _ _ b cells _ f c.rows.invariant.0 c.row-end-end.ensures.rows flaw in
+    let e = stopped c.rows.number row _ _ b cells _ f c.rows.invariant.0 c.row_end-end.ensures.rows flaw in
     record {
-      answer = ap Err c.at-in-Err-enter-draft.ensures ∙ sym (ap (λ (o : Outcome). o.answer) e);
+      answer = ap Err c.at-in-Err-enter_draft.ensures ∙ sym (ap (λ (o : Outcome). o.answer) e);
       book = told.book ∙ refused_stays (draft_request d).gaps (enter_answer b (length cells) (draft_request d)) f _ _ (sym told.answer) ∙ sym (ap (λ (o : Outcome). o.book) e);
       memory = told.memory ∙ refused_stays (draft_request d).gaps (enter_answer b (length cells) (draft_request d)) f _ _ (sym told.answer) ∙ sym (ap (λ (o : Outcome). o.cells) e);
       lender = told.lender ∙ c.rows.invariant.3;

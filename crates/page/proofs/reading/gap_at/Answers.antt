@@ -8,17 +8,17 @@ use Rattle.page.specs.Row.{gap_of}
 use Rattle.page.proofs.Fieldwork.{gap_first, gap_later, no_first_gap, decimal_cases}
 use Rattle.page.proofs.reading.gap_at.Goals as goal
 
-pub returns-in-err-check-blank : goal.returns-in-err-check-blank
-returns-in-err-check-blank c =
-    let p = err_from_is_err_and c.from-residual.result c.from-residual.ensures.1 in
-    rw (p.1, p.2) (gap_first c.args.row.now c.args.keyword c.if-keyword-eq0.true ∙ sym c.in-err-check-blank.ensures)
+pub returns-in_err-check_blank : goal.returns-in_err-check_blank
+returns-in_err-check_blank c =
+    let p = err_from_is_err_and c.from_residual.result c.from_residual.ensures.1 in
+    rw (p.1, p.2) (gap_first c.args.row.now c.args.keyword c.if-keyword-eq0.true ∙ sym c.in_err-check_blank.ensures)
 
-pub returns-in-ok-check-blank : goal.returns-in-ok-check-blank
-returns-in-ok-check-blank c =
+pub returns-in_ok-check_blank : goal.returns-in_ok-check_blank
+returns-in_ok-check_blank c =
     let row = c.args.row.now in
     let k = c.args.keyword in
     let z = c.if-keyword-eq0.true in
-    let b = sym c.in-ok-check-blank.ensures in
+    let b = sym c.in_ok-check_blank.ensures in
     (no_first_gap row k z b, gap_first row k z ∙ b)
 
 pub returns-else-keyword-eq0 : goal.returns-else-keyword-eq0
@@ -26,4 +26,4 @@ returns-else-keyword-eq0 c =
     let row = c.args.row.now in
     let k = c.args.keyword in
     let g = gap_later row k c.if-keyword-eq0.false in
-    simp (c.decimal-at.ensures, g) (decimal_cases (decimal_in (gap_field row k)) (12 + 21 * k))
+    simp (c.decimal_at.ensures, g) (decimal_cases (decimal_in (gap_field row k)) (12 + 21 * k))

@@ -6,6 +6,6 @@ use Rattle.parted.proofs.parsing.read_rows.Goals as goal
 
 pub loop-rest-smaller : goal.loop-rest-smaller
 loop-rest-smaller c =
-    let e = ap length c.split-row.ensures.rest ∙ length-drop (row_length c.loop-rest.rest.now + 1) c.loop-rest.rest.now in
-    let some = eqb-false (length c.loop-rest.rest.now) 0 (sym c.is-empty.ensures ∙ c.loop-rest-test.true) in
+    let e = ap length c.split_row.ensures.rest ∙ length-drop (row_length c.loop-rest.rest.now + 1) c.loop-rest.rest.now in
+    let some = eqb-false (length c.loop-rest.rest.now) 0 (sym c.is_empty.ensures ∙ c.loop-rest-test.true) in
     omega (arith, e, some)

@@ -13,15 +13,15 @@ returns g c =
     let x = g.X.Finder.book c.args.first in
     let y = g.Y.Finder.book c.args.second in
     let cs = take c.args.steps c.args.commands.now in
-    let log = take c.args.steps c.run-three.new.log in
-    let of_w = c.run-three.ensures.whole.replied w [] c.new-all.ensures in
-    let of_x = c.run-three.ensures.first.replied x [] c.new-one.ensures in
-    let of_y = c.run-three.ensures.second.replied y [] c.new-two.ensures in
+    let log = take c.args.steps c.run_three.new.log in
+    let of_w = c.run_three.ensures.whole.replied w [] c.new-all.ensures in
+    let of_x = c.run_three.ensures.first.replied x [] c.new-one.ensures in
+    let of_y = c.run_three.ensures.second.replied y [] c.new-two.ensures in
     record {
       whole = of_w;
       first = of_x;
       second = of_y;
-      beyond = c.run-three.ensures.beyond;
+      beyond = c.run_three.ensures.beyond;
       parting = λ parted alike-x alike-y.
           let law = parting hears w x y parted c.new-all.ensures.lives.sees.finder.proper.apart (takes g.W.Finder.reads) (takes g.X.Finder.reads) (takes g.Y.Finder.reads) alike-x alike-y cs in
           subst (λ (rs : List Reply). AllShared x y cs rs (of_first log) (of_second log)) (sym of_w)

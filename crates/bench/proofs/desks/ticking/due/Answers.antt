@@ -15,7 +15,7 @@ loop-line-preserved c =
     let i = c.loop-line.line-index in
     let sum = due_points c.args.recent.now c.args.tick in
     let e = at_drop_more sum lines i none c.loop-line-test.true in
-    let here : due_of c.args.recent.now c.args.tick (get_or lines i none) ≡ c.points-due.result = sym c.points-due.ensures in
+    let here : due_of c.args.recent.now c.args.tick (get_or lines i none) ≡ c.points_due.result = sym c.points_due.ensures in
     let inv = c.loop-line.invariant in
     (omega (arith, ints, e, here, inv.0), omega (arith, ints, inv.1), omega (arith, ints, inv.2))
 

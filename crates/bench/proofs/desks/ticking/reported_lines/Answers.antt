@@ -4,7 +4,7 @@ use Rattle.columns.specs.Numbers.{member, is_number}
 use Rattle.bench.specs.declared.lines.Watched.{Watched}
 use Rattle.bench.specs.Firing.{fires, any_fires}
 use Rattle.bench.proofs.desks.ticking.reported_lines.Goals as goal
-use Rattle.bench.proofs.desks.ticking.reported_lines.Goals.{then-is-reported, else-is-reported}
+use Rattle.bench.proofs.desks.ticking.reported_lines.Goals.{then-is_reported, else-is_reported}
 
 none : Watched
 none = record { number = 0; points = pos 0; lag = 0; last = 0; span = 0 }
@@ -32,16 +32,16 @@ loop-line-preserved c n =
     let rest = any (drop (i + 1) lines) in
     let e = at_drop_more any lines i none c.loop-line-test.true in
     let inv = c.loop-line.invariant n in
-    elim c.if-is-reported.branch [
-      | then-is-reported v ↦
+    elim c.if-is_reported.branch [
+      | then-is_reported v ↦
           ap (λ x. x || rest) (ap (λ x. member x n) v.reported-is ∙ v.insert.ensures n)
           ∙ turn (is_number w.number && eqb n w.number) (member c.loop-line.reported n) rest
-          ∙ ap (λ x. member c.loop-line.reported n || ((x && (is_number w.number && eqb n w.number)) || rest)) (sym v.if-is-reported.true ∙ c.is-reported.ensures)
+          ∙ ap (λ x. member c.loop-line.reported n || ((x && (is_number w.number && eqb n w.number)) || rest)) (sym v.if-is_reported.true ∙ c.is_reported.ensures)
           ∙ ap (λ x. member c.loop-line.reported n || x) (sym e)
           ∙ inv
-      | else-is-reported v ↦
+      | else-is_reported v ↦
           ap (λ x. x || rest) (ap (λ x. member x n) v.reported-is)
-          ∙ ap (λ x. member c.loop-line.reported n || ((x && (is_number w.number && eqb n w.number)) || rest)) (sym v.if-is-reported.false ∙ c.is-reported.ensures)
+          ∙ ap (λ x. member c.loop-line.reported n || ((x && (is_number w.number && eqb n w.number)) || rest)) (sym v.if-is_reported.false ∙ c.is_reported.ensures)
           ∙ ap (λ x. member c.loop-line.reported n || x) (sym e)
           ∙ inv
     ]

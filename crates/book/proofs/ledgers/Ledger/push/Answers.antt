@@ -16,9 +16,9 @@ invariant-of-self g c =
     let a = c.requires in
     let n = b.counts.lines in
     let el = ap (λ r. take (n + 1) (set b.lines n r)) c.row.ensures ∙ lines_after b q a in
-    let ek = ap (take (b.counts.keywords + length q.lengths)) c.write-keywords.ensures ∙ keywords_after b q a in
+    let ek = ap (take (b.counts.keywords + length q.lengths)) c.write_keywords.ensures ∙ keywords_after b q a in
     let room = line_room b q a in (
-      (length-set b.lines n _ ∙ b.whole.0, ap length c.write-keywords.ensures ∙ keywords_whole b q a),
+      (length-set b.lines n _ ∙ b.whole.0, ap length c.write_keywords.ensures ∙ keywords_whole b q a),
       (
         (omega arith, a.keyword_room, a.cell_room),
         (
@@ -44,6 +44,6 @@ returns g c =
     let n = b.counts.lines in
     record {
       lines = ap (λ r. take (n + 1) (set b.lines n r)) c.row.ensures ∙ lines_after b q c.requires;
-      keywords = ap (take (b.counts.keywords + length q.lengths)) c.write-keywords.ensures ∙ keywords_after b q c.requires;
+      keywords = ap (take (b.counts.keywords + length q.lengths)) c.write_keywords.ensures ∙ keywords_after b q c.requires;
       cells = refl;
     }

@@ -7,4 +7,4 @@ pub returns : goal.returns
 returns g c =
     let b = c.args.self.now in
     let z : b.ledger.counts.lines - 0 ≡ b.ledger.counts.lines = omega arith in
-    c.any-has.ensures (open_book b) (ap (λ n. take n b.ledger.lines) z ∙ sym (held_lines b.ledger b.cells.now))
+    c.any_has.ensures (open_book b) (ap (λ n. take n b.ledger.lines) z ∙ sym (held_lines b.ledger b.cells.now))

@@ -18,11 +18,11 @@ returns g c =
     let e : c.loop-i.i ≡ g.row.N = omega arith in
     c.loop-i.invariant ∙ ap (λ (i : ℕ). how_many (bit c.args.self) (g.row.FIRST + 64 * i)) e
 
-pub overflow-cast-count : goal.overflow-cast-count
-overflow-cast-count g c = let l = ones-le 64 (get_or c.args.self.words c.loop-i.i 0) (search rules) in record { fits = omega arith }
+pub overflow_cast-count : goal.overflow_cast-count
+overflow_cast-count g c = let l = ones-le 64 (get_or c.args.self.words c.loop-i.i 0) (search rules) in record { fits = omega arith }
 
-pub overflow-add-count : goal.overflow-add-count
-overflow-add-count g c =
+pub overflow_add-count : goal.overflow_add-count
+overflow_add-count g c =
     let l = ones-le 64 (get_or c.args.self.words c.loop-i.i 0) (search rules) in
     let m = how_many-le (bit c.args.self) (g.row.FIRST + 64 * c.loop-i.i) in
     record { fits = omega arith }

@@ -12,9 +12,9 @@ returns-then-keyword-keywords g c =
     let stands : ℕ → Bool = λ p. get_or c.args.marks.now p false in
     sym (sym (ap (λ rs. ends_among rs stands c.args.keyword) c.keywords-keywords.ensures.rows) ∙ ends_past stands c.keywords-keywords.result.now c.args.keyword c.if-keyword-keywords.true)
 
-pub overflow-sub-result : goal.overflow-sub-result
+pub overflow_sub-result : goal.overflow_sub-result
 unfolding none
-overflow-sub-result g c = let f = c.keywords-keywords.ensures.fit c.args.keyword none c.if-keyword-keywords.false in omega (arith, f.inside, f.some)
+overflow_sub-result g c = let f = c.keywords-keywords.ensures.fit c.args.keyword none c.if-keyword-keywords.false in omega (arith, f.inside, f.some)
 
 pub bounds-marks-row : goal.bounds-marks-row
 unfolding none

@@ -19,11 +19,11 @@ loop-place-preserved g c =
     let admits : g.row.C.Denot → Bool = λ d. g.C.Cell.admits d c.args.symbol in
     let x = c.index-cells-place.result in
     let admitted = ap admits c.index-cells-place.is ∙ sym (passes_at admits cs i x c.loop-place-test.true) in (
-      length-set c.loop-place.after i c.goes-on.result ∙ c.loop-place.invariant.0,
+      length-set c.loop-place.after i c.goes_on.result ∙ c.loop-place.invariant.0,
       below_more _ _
-          (λ k h. let ne : k ≢ i = omega arith in get_or-set_other c.loop-place.after i k c.goes-on.result false ne ∙ c.loop-place.invariant.1 k h)
-          (get_or-set_same c.loop-place.after i c.goes-on.result false lt ∙ c.goes-on.ensures ∙ (λ j. admitted j && c.reaches-reached.ensures j)),
-      λ k h. let ne : k ≢ i = omega arith in get_or-set_other c.loop-place.after i k c.goes-on.result false ne ∙ c.loop-place.invariant.2 k (omega arith),
+          (λ k h. let ne : k ≢ i = omega arith in get_or-set_other c.loop-place.after i k c.goes_on.result false ne ∙ c.loop-place.invariant.1 k h)
+          (get_or-set_same c.loop-place.after i c.goes_on.result false lt ∙ c.goes_on.ensures ∙ (λ j. admitted j && c.reaches-reached.ensures j)),
+      λ k h. let ne : k ≢ i = omega arith in get_or-set_other c.loop-place.after i k c.goes_on.result false ne ∙ c.loop-place.invariant.2 k (omega arith),
     )
 
 pub returns : goal.returns

@@ -10,6 +10,6 @@ returns c = record {
       let l = c.args.self.now in
       c.and.ensures k
       ∙ ap (λ b. b && mark c.args.ended k) (c.or.ensures k ∙ ap (λ b. b || mark l.links.firsts k) (c.shifted.ensures k))
-      ∙ ap (λ b. ((ltb k 512 && one_up (mark c.look-back-seen.result) k) || mark l.links.firsts k) && b) (en.0 k)
-      ∙ newest l lines keywords past r e en.1 (mark c.look-back-seen.result) c.look-back-seen.ensures (mark l.links.firsts) r.linked.firsts k h;
+      ∙ ap (λ b. ((ltb k 512 && one_up (mark c.look_back-seen.result) k) || mark l.links.firsts k) && b) (en.0 k)
+      ∙ newest l lines keywords past r e en.1 (mark c.look_back-seen.result) c.look_back-seen.ensures (mark l.links.firsts) r.linked.firsts k h;
 }

@@ -23,20 +23,20 @@ next_flaw row d o drafted h e =
 set_next : (xs ys : List ℕ) (k n m : ℕ) → k < length xs → take k xs ≡ ys → n ≡ m → take (k + 1) (set xs k n) ≡ ys ++ m ∷ []
 set_next xs ys k n m h e g = take_more_set xs k n h ∙ ap (λ l. l ++ n ∷ []) e ∙ ap (λ x. ys ++ x ∷ []) g
 
-pub returns-in-err-gap : goal.returns-in-err-gap
-returns-in-err-gap c =
-    let p = err_from_is_err_and c.from-residual.result c.from-residual.ensures.1 in
+pub returns-in_err-gap : goal.returns-in_err-gap
+returns-in_err-gap c =
+    let p = err_from_is_err_and c.from_residual.result c.from_residual.ensures.1 in
     let row = c.args.row.now in
     let d = c.args.self.now in
-    let e = flawed_gap row d.keywords _ c.in-err-gap.ensures in
+    let e = flawed_gap row d.keywords _ c.in_err-gap.ensures in
     rw (p.1, p.2) (next_flaw row d _ c.requires.0 c.requires.1 e)
 
-pub returns-in-err-check-blank : goal.returns-in-err-check-blank
-returns-in-err-check-blank c =
-    let p = err_from_is_err_and c.from-residual-in-err-check-blank.result c.from-residual-in-err-check-blank.ensures.1 in
+pub returns-in_err-check_blank : goal.returns-in_err-check_blank
+returns-in_err-check_blank c =
+    let p = err_from_is_err_and c.from_residual-in_err-check_blank.result c.from_residual-in_err-check_blank.ensures.1 in
     let row = c.args.row.now in
     let d = c.args.self.now in
-    let e = flawed_blank row d.keywords _ c.in-ok-gap.ensures.1 (sym c.in-err-check-blank.ensures) in
+    let e = flawed_blank row d.keywords _ c.in_ok-gap.ensures.1 (sym c.in_err-check_blank.ensures) in
     rw (p.1, p.2) (next_flaw row d _ c.requires.0 c.requires.1 e)
 
 pub returns-in-Some : goal.returns-in-Some
@@ -45,7 +45,7 @@ returns-in-Some c =
     let d = c.args.self.now in
     let k = d.keywords in
     let b : Some c.in-Some.bad ≡ bad_letter (letter_field row k) = c.in-Some.ensures.value ∙ ap bad_letter c.part-field.ensures.bytes in
-    let e = flawed_letters row k c.in-ok-gap.ensures.1 (sym c.in-ok-check-blank.ensures)
+    let e = flawed_letters row k c.in_ok-gap.ensures.1 (sym c.in_ok-check_blank.ensures)
     ∙ ap (option_map (λ i. at_column BadKeyword (17 + 21 * k + i))) (sym b) in
     next_flaw row d _ c.requires.0 c.requires.1 e ∙ ap Some (sym c.flaw.ensures)
 
@@ -56,10 +56,10 @@ returns c =
     let k = d.keywords in
     let drafted = c.requires.0 in
     let f : c.part-field.result.now ≡ letter_field row k = c.part-field.ensures.bytes in
-    let n = c.write-letters-letters.result in
-    let count : n ≡ length (letters_of (letter_field row k)) = c.write-letters-letters.ensures.count ∙ ap (λ x. length (letters_of x)) f in
+    let n = c.write_letters-letters.result in
+    let count : n ≡ length (letters_of (letter_field row k)) = c.write_letters-letters.ensures.count ∙ ap (λ x. length (letters_of x)) f in
     let b : None ≡ bad_letter (letter_field row k) = c.in-default.ensures.value ∙ ap bad_letter f in
-    let e = flawed_letters row k c.in-ok-gap.ensures.1 (sym c.in-ok-check-blank.ensures)
+    let e = flawed_letters row k c.in_ok-gap.ensures.1 (sym c.in_ok-check_blank.ensures)
     ∙ ap (option_map (λ i. at_column BadKeyword (17 + 21 * k + i))) (sym b) in
     let w = d.whole in
     let few : keywords_in (length row) ≤ 16 = drafted.sized.few in
@@ -72,8 +72,8 @@ returns c =
         points = drafted.points;
         lag = drafted.lag;
         lengths = set_next d.lengths (lengths_up_to row k) k n _ lk drafted.lengths count ∙ sym (lengths_more row k);
-        gaps = set_next d.gaps (gaps_up_to row k) k c.in-ok-gap.gap (gap_of row k) gk drafted.gaps c.in-ok-gap.ensures.0 ∙ sym (gaps_more row k);
-        cells = c.write-letters-letters.ensures.cells ∙ ap (λ l. l ++ letters_of c.part-field.result.now) drafted.cells ∙ ap (λ x. cells_up_to row k ++ letters_of x) f ∙ sym (cells_more row k);
+        gaps = set_next d.gaps (gaps_up_to row k) k c.in_ok-gap.gap (gap_of row k) gk drafted.gaps c.in_ok-gap.ensures.0 ∙ sym (gaps_more row k);
+        cells = c.write_letters-letters.ensures.cells ∙ ap (λ l. l ++ letters_of c.part-field.result.now) drafted.cells ∙ ap (λ x. cells_up_to row k ++ letters_of x) f ∙ sym (cells_more row k);
         flaw = next_flaw row d None drafted c.requires.1 e;
       },
       refl,

@@ -22,6 +22,6 @@ returns c =
       result = rw (long, l);
       memory =
           rw long
-          (ap (λ u. u ++ drop (row.len - 0) out) (c.copy-from-slice.ensures.after ∙ ap (λ k. take k row.bytes) z) ∙ ap (λ k. text row ++ drop k out) (z ∙ sym l));
+          (ap (λ u. u ++ drop (row.len - 0) out) (c.copy_from_slice.ensures.after ∙ ap (λ k. take k row.bytes) z) ∙ ap (λ k. text row ++ drop k out) (z ∙ sym l));
       enough = λ h. refl;
     }

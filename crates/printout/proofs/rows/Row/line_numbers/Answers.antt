@@ -8,7 +8,7 @@ use Rattle.printout.proofs.rows.Row.line_numbers.Goals as goal
 
 pub loop-number-init : goal.loop-number-init
 loop-number-init c =
-    let l = ap (λ m. length (remaining m)) c.into-iter-number-iterator.ensures.into-iter-gives ∙ ap length c.members-number-items.ensures in
+    let l = ap (λ m. length (remaining m)) c.into_iter-number-iterator.ensures.into_iter-gives ∙ ap length c.members-number-items.ensures in
     (refl, refl, omega (arith, rising_few c.args.numbers))
 
 pub loop-number-preserved : goal.loop-number-preserved
@@ -16,7 +16,7 @@ loop-number-preserved c =
     let left = remaining c.next.new.self in
     let step = c.in-Some.ensures.steps in
     let l : length (remaining c.loop-number.number-iterator) ≡ suc (length left) = ap length {y = c.in-Some.number ∷ left} step in (
-      fields_more (text c.loop-number.self) _ _ left c.in-Some.number c.line-number.ensures.text step ∙ c.loop-number.invariant.0,
+      fields_more (text c.loop-number.self) _ _ left c.in-Some.number c.line_number.ensures.text step ∙ c.loop-number.invariant.0,
       omega arith,
       c.loop-number.invariant.2,
     )
@@ -24,7 +24,7 @@ loop-number-preserved c =
 pub returns : goal.returns
 returns c =
     let none = c.in-None.ensures.steps in
-    let all = ap remaining c.into-iter-number-iterator.ensures.into-iter-gives ∙ c.members-number-items.ensures in
+    let all = ap remaining c.into_iter-number-iterator.ensures.into_iter-gives ∙ c.members-number-items.ensures in
     let l = ap length none in
     let n = ap length all in
     record {

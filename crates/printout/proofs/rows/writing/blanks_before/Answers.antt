@@ -11,7 +11,7 @@ returns c =
     let digits = decimal c.args.n in
     let s = length_sign minus in
     let l = length-append (sign_text minus) digits in
-    let e : c.saturating-sub.result ≡ c.args.width - length (sign_text minus ++ digits) = omega arith in
+    let e : c.saturating_sub.result ≡ c.args.width - length (sign_text minus ++ digits) = omega arith in
     record {
       field = λ before. justified before c.args.width _ minus digits e;
       some = decimal_nonempty c.args.n (omega arith);

@@ -60,8 +60,8 @@ loop-line-preserved c =
     let n = (get_or ls i none).number in
     let step = map_more (λ x. x.number) ls i none c.loop-line-test.true in
     let ns = map (λ x. x.number) (take i ls) in (
-      ap length c.arm-at-first.ensures ∙ still_long c.loop-line.at c.loop-line.invariant.0 ns n,
-      λ j h. ap (λ x. get_or x j Absent) c.arm-at-first.ensures ∙ more c.loop-line.at c.loop-line.invariant.0 ns n j h (c.loop-line.invariant.1 j h) ∙ ap (λ xs. armed (among (j + 1) xs)) (sym step),
+      ap length c.arm_at_first.ensures ∙ still_long c.loop-line.at c.loop-line.invariant.0 ns n,
+      λ j h. ap (λ x. get_or x j Absent) c.arm_at_first.ensures ∙ more c.loop-line.at c.loop-line.invariant.0 ns n j h (c.loop-line.invariant.1 j h) ∙ ap (λ xs. armed (among (j + 1) xs)) (sym step),
     )
 
 pub returns : goal.returns
