@@ -19,7 +19,7 @@ invariant-rows l = (enter_rows l.number (rows_of (drop l.start l.page)) (open_bo
     ≡ page_outcome (open_book l.initial.book) l.initial.book.cells.now l.page)
     × (l.start ≤ length l.page)
     × (l.number ≤ l.start + 1)
-    × (l.book.cells.name ≡ l.initial.book.cells.name)
+    × (l.book.cells.ghost_name ≡ l.initial.book.cells.ghost_name)
 
 abbrev pub decreases-rows : goal.decreases-rows
 decreases-rows l = length l.page - l.start

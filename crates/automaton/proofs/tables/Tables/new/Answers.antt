@@ -1,8 +1,8 @@
 use Rattle.std.proofs.Common.{◌∙◌}
 use Rattle.automaton.proofs.tables.Tables.new.Goals as goal
 
-pub invariant-of-result : goal.invariant-of-result
-invariant-of-result c = (
+pub invariant_of-result : goal.invariant_of-result
+invariant_of-result c = (
   (
     c.link.auto.next ∙ c.plant.auto.next ∙ c.split_at_mut-next.ensures.front-len,
     c.link.auto.fail ∙ c.split_at_mut-fail.ensures.front-len,

@@ -9,8 +9,8 @@ use Rattle.book.proofs.ledgers.Ledger.push.Goals as goal
 pub bounds-self-lines : goal.bounds-self-lines
 bounds-self-lines g c = line_room c.args.self.now (request c.args.entry.now) c.requires
 
-pub invariant-of-self : goal.invariant-of-self
-invariant-of-self g c =
+pub invariant_of-self : goal.invariant_of-self
+invariant_of-self g c =
     let b = c.args.self.now in
     let q = request c.args.entry.now in
     let a = c.requires in

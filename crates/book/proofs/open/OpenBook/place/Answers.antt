@@ -10,8 +10,8 @@ use Rattle.book.proofs.open.OpenBook.place.Goals as goal
 pub push-requires : goal.push-requires
 push-requires g c = subst (λ b. Admitted b (request c.args.entry.now)) (sym c.write_cells.ensures.ledger) c.requires.admitted
 
-pub invariant-of-self : goal.invariant-of-self
-invariant-of-self g c =
+pub invariant_of-self : goal.invariant_of-self
+invariant_of-self g c =
     let s = c.args.self.now in
     let cs = c.args.entry.now.cells.now in
     let long = ap length c.write_cells.ensures.memory ∙ length-paste s.cells.now s.ledger.counts.cells cs (length cs) c.requires.room (omega arith) in

@@ -7,8 +7,8 @@ use Rattle.printout.proofs.rows.Row.push.Goals as goal
 pub bounds-self-len : goal.bounds-self-len
 bounds-self-len c = omega (arith, length-text c.args.self.now)
 
-pub invariant-of-self : goal.invariant-of-self
-invariant-of-self c = ((length-set _ _ _ ∙ c.args.self.now.room.0, omega (arith, length-text c.args.self.now)), tt)
+pub invariant_of-self : goal.invariant_of-self
+invariant_of-self c = ((length-set _ _ _ ∙ c.args.self.now.room.0, omega (arith, length-text c.args.self.now)), tt)
 
 pub returns : goal.returns
 unfolding text
