@@ -17,25 +17,17 @@ invariant_of-self g c =
     let n = b.counts.lines in
     let el = ap (λ r. take (n + 1) (set b.lines n r)) c.row.ensures ∙ lines_after b q a in
     let ek = ap (take (b.counts.keywords + length q.lengths)) c.write_keywords.ensures ∙ keywords_after b q a in
-    let room = line_room b q a in (
-      (length-set b.lines n _ ∙ b.whole.0, ap length c.write_keywords.ensures ∙ keywords_whole b q a),
-      (
-        (omega arith, a.keyword_room, a.cell_room),
-        (
-          ap (λ ls. lines_laid ls 0 (b.counts.keywords + length q.lengths)) el ∙ joined_after b q a,
-          (
-            ap (λ ks. keywords_laid ks 0 (b.counts.cells + length q.cells)) ek ∙ laid_after b q a,
-            (
-              (λ i. opened (el i) (ek i)) ∙ opened_after b q a,
-              (
-                ap (list_all line_ok) el ∙ lines_ok b q a,
-                (ap (list_all keyword_ok) ek ∙ sized_after b q a, (ap (λ ls. distinct (map (λ l. l.number) ls)) el ∙ numbers_apart b q a, tt)),
-              ),
-            ),
-          ),
-        ),
-      ),
-    )
+    let room = line_room b q a in
+    record {
+      whole = (length-set b.lines n _ ∙ b.whole.0, ap length c.write_keywords.ensures ∙ keywords_whole b q a);
+      few = (omega arith, a.keyword_room, a.cell_room);
+      joined = ap (λ ls. lines_laid ls 0 (b.counts.keywords + length q.lengths)) el ∙ joined_after b q a;
+      laid = ap (λ ks. keywords_laid ks 0 (b.counts.cells + length q.cells)) ek ∙ laid_after b q a;
+      openings = (λ i. opened (el i) (ek i)) ∙ opened_after b q a;
+      proper = ap (list_all line_ok) el ∙ lines_ok b q a;
+      sized = ap (list_all keyword_ok) ek ∙ sized_after b q a;
+      apart = ap (λ ls. distinct (map (λ l. l.number) ls)) el ∙ numbers_apart b q a;
+    }
 
 pub returns : goal.returns
 returns g c =

@@ -16,7 +16,7 @@ invariant_of-self g c =
     let cs = c.args.entry.now.cells.now in
     let long = ap length c.write_cells.ensures.memory ∙ length-paste s.cells.now s.ledger.counts.cells cs (length cs) c.requires.room (omega arith) in
     let filled_to = c.push.ensures.cells ∙ ap (λ b. b.counts.cells + length cs) c.write_cells.ensures.ledger in
-    (omega (arith, c.requires.room), tt)
+    record { room = omega (arith, c.requires.room) }
 
 pub returns : goal.returns
 returns g c =
