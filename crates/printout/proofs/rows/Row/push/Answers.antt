@@ -8,7 +8,7 @@ pub bounds-self-len : goal.bounds-self-len
 bounds-self-len c = omega (arith, length-text c.args.self.now)
 
 pub invariant_of-self : goal.invariant_of-self
-invariant_of-self c = ((length-set _ _ _ ∙ c.args.self.now.room.0, omega (arith, length-text c.args.self.now)), tt)
+invariant_of-self c = record { room = (length-set _ _ _ ∙ c.args.self.now.room.0, omega (arith, length-text c.args.self.now)) }
 
 pub returns : goal.returns
 unfolding text
