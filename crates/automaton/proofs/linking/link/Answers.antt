@@ -49,4 +49,4 @@ loop-state-preserved c =
 pub returns : goal.returns
 returns c w made T =
     let B = between_none w _ _ _ made T c.requires.next (c.wipe.auto.part ∙ c.requires.fail) (c.wipe-2.auto.part ∙ c.requires.turns) c.wipe.ensures c.wipe-2.ensures in
-    all_settled w _ _ _ _ _ (none_first _ (sym c.in-default.ensures.result)) (c.loop-state.invariant.0 w B)
+    all_settled w _ _ _ _ _ (none_first _ (sym c.in_default.ensures.result)) (c.loop-state.invariant.0 w B)

@@ -3,8 +3,8 @@ use Rattle.std.proofs.lemmas.Bool.Decides.{nat_tests}
 use Rattle.page.proofs.Steps.{fitting_step, fitting_end}
 use Rattle.page.proofs.entering.count_fitting.Goals as goal
 
-pub returns-then-gap-gt-LONGEST-GAP : goal.returns-then-gap-gt-LONGEST-GAP
-returns-then-gap-gt-LONGEST-GAP c =
+pub returns-then-gap-gt-LONGEST_GAP : goal.returns-then-gap-gt-LONGEST_GAP
+returns-then-gap-gt-LONGEST_GAP c =
     let s = fitting_step c.args.gaps.now c.loop-i.i (omega arith) in
     record { count = grind (arith, nat_tests); within = omega arith }
 

@@ -4,11 +4,11 @@ use Rattle.page.specs.Letters.{letters_of, cell_before}
 use Rattle.page.proofs.Spelling.{letters_step, letters_none, all_letters, next_letter, letter_written}
 use Rattle.page.proofs.fields.write_letters.Goals as goal
 
-pub returns-in-default : goal.returns-in-default
-returns-in-default c =
+pub returns-in_default : goal.returns-in_default
+returns-in_default c =
     let f = c.args.field.now in
     let i = c.loop-i.i in
-    let e : letters_of (drop i f) ≡ [] = letters_step f i c.loop-i-test.true ∙ ap (λ r. cell_before r (letters_of (drop (i + 1) f))) (sym c.in-default.ensures) in
+    let e : letters_of (drop i f) ≡ [] = letters_step f i c.loop-i-test.true ∙ ap (λ r. cell_before r (letters_of (drop (i + 1) f))) (sym c.in_default.ensures) in
     let a = all_letters f i c.loop-i.invariant.0 (c.loop-i.invariant.1 ∙ e) in
     record { count = a.0; within = omega arith; cells = c.loop-i.invariant.2 ∙ ap (λ l. take c.args.at c.args.cells.now ++ l) a.1 }
 

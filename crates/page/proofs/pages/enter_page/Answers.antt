@@ -23,20 +23,20 @@ rows-preserved c =
     let d = c.blocks-2.draft in
     let inv = c.rows.invariant in
     let whole : d.keywords ≡ keywords_in (length row) = c.if-draft-keywords.true ∙ c.count_keywords-keywords.ensures in
-    let flaw = row_told b (length cells) row d c.blocks-2.invariant.0 whole ∙ sym c.in-default-enter_draft.ensures.answer in
+    let flaw = row_told b (length cells) row d c.blocks-2.invariant.0 whole ∙ sym c.in_default-enter_draft.ensures.answer in
     let line = read_line row d c.blocks-2.invariant.0 whole in
     let next = c.next_start-start.ensures in
     let rest = next_rows page end c.next_start-start.result next.behind next.last in
     let further = next_further start (length page) end c.next_start-start.result (omega arith) c.row_end-end.ensures.from next.behind next.last in (
       ap (λ bs. enter_rows (c.rows.number + 1) (rows_of bs) (open_book c.enter_draft.new.book) c.enter_draft.new.book.cells.now) rest
-          ∙ ap (λ x. enter_rows (c.rows.number + 1) (rows_of (drop (end + 1) page)) x c.enter_draft.new.book.cells.now) (c.in-default-enter_draft.ensures.book ∙ ap (entered b (length cells)) (sym line))
-          ∙ ap (enter_rows (c.rows.number + 1) (rows_of (drop (end + 1) page)) _) (c.in-default-enter_draft.ensures.memory ∙ ap (cells_after b cells) (sym line))
+          ∙ ap (λ x. enter_rows (c.rows.number + 1) (rows_of (drop (end + 1) page)) x c.enter_draft.new.book.cells.now) (c.in_default-enter_draft.ensures.book ∙ ap (entered b (length cells)) (sym line))
+          ∙ ap (enter_rows (c.rows.number + 1) (rows_of (drop (end + 1) page)) _) (c.in_default-enter_draft.ensures.memory ∙ ap (cells_after b cells) (sym line))
           ∙ sym (row_goes c.rows.number row (rows_of (drop (end + 1) page)) b cells flaw)
           ∙ ap (λ rows. enter_rows c.rows.number rows b cells) (sym c.row_end-end.ensures.rows)
           ∙ inv.0,
       next.within,
       omega arith,
-      c.in-default-enter_draft.ensures.lender ∙ inv.3,
+      c.in_default-enter_draft.ensures.lender ∙ inv.3,
     )
 
 pub returns-then-start-page : goal.returns-then-start-page

@@ -55,7 +55,7 @@ loop-keyword-preserved c =
     let rows = c.keywords-keyword-items.ensures in
     let t = told b _ c.loop-keyword.keyword-index none rows.rows rows.fit c.loop-keyword-test.true in
     below_more _ _ c.loop-keyword.invariant
-    (λ i h e. c.in-default.ensures i (omega (arith, t.long, h)) (ap (λ f. at c.args.self.now.states.now (f + i)) t.first ∙ e))
+    (λ i h e. c.in_default.ensures i (omega (arith, t.long, h)) (ap (λ f. at c.args.self.now.states.now (f + i)) t.first ∙ e))
 
 pub returns : goal.returns
 returns c taken stood =

@@ -58,7 +58,7 @@ returns c =
     let f : c.part-field.result.now ≡ letter_field row k = c.part-field.ensures.bytes in
     let n = c.write_letters-letters.result in
     let count : n ≡ length (letters_of (letter_field row k)) = c.write_letters-letters.ensures.count ∙ ap (λ x. length (letters_of x)) f in
-    let b : None ≡ bad_letter (letter_field row k) = c.in-default.ensures.value ∙ ap bad_letter f in
+    let b : None ≡ bad_letter (letter_field row k) = c.in_default.ensures.value ∙ ap bad_letter f in
     let e = flawed_letters row k c.in_ok-gap.ensures.1 (sym c.in_ok-check_blank.ensures)
     ∙ ap (option_map (λ i. at_column BadKeyword (17 + 21 * k + i))) (sym b) in
     let w = d.whole in

@@ -8,7 +8,7 @@ use Rattle.printout.proofs.rows.Row.line_numbers.Goals as goal
 
 pub loop-number-init : goal.loop-number-init
 loop-number-init c =
-    let l = ap (λ m. length (remaining m)) c.into_iter-number-iterator.ensures.into_iter-gives ∙ ap length c.members-number-items.ensures in
+    let l = ap (λ m. length (remaining m)) c.into_iter-number-iterator.ensures.into_iter_gives ∙ ap length c.members-number-items.ensures in
     (refl, refl, omega (arith, rising_few c.args.numbers))
 
 pub loop-number-preserved : goal.loop-number-preserved
@@ -24,7 +24,7 @@ loop-number-preserved c =
 pub returns : goal.returns
 returns c =
     let none = c.in-None.ensures.steps in
-    let all = ap remaining c.into_iter-number-iterator.ensures.into_iter-gives ∙ c.members-number-items.ensures in
+    let all = ap remaining c.into_iter-number-iterator.ensures.into_iter_gives ∙ c.members-number-items.ensures in
     let l = ap length none in
     let n = ap length all in
     record {
