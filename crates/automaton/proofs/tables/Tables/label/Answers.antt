@@ -17,8 +17,8 @@ use Rattle.automaton.proofs.tables.Tables.label.Goals as goal
 abbrev none : KeywordRow
 none = record { gap = 0; first = 0; length = 0 }
 
-pub slice-bounds-result-end : goal.slice-bounds-result-end
-slice-bounds-result-end c =
+pub slice_bounds-result-end : goal.slice_bounds-result-end
+slice_bounds-result-end c =
     let b = book_of c.args.self.now in
     let rows = c.keywords-keyword-items.ensures in
     let t = told b _ c.loop-keyword.keyword-index none rows.rows rows.fit c.loop-keyword-test.true in
