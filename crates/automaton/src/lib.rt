@@ -1,4 +1,6 @@
 // The keyword automaton: a finder over letter cells.
+#![tactic(auto)]
+
 pub mod letters;
 mod linking;
 mod memory;

@@ -1,6 +1,6 @@
 -- The lines that fire are those that are reported, and the points that are due are the tick's.
 use Rattle.std.proofs.Common.{◌≡◌, ℕ, ◌+◌, ◌-◌, ◌<◌, ◌≤◌, Bool, true, false, cond, ◌&&◌, ◌||◌, eqb, ltb, leb, List, [], ◌∷◌, ◌++◌, map, reverse, length, ℤ, pos, ◌+ℤ◌, sym, refl, ap, ◌∙◌, subst, ⊎_elim, append_assoc, arith}
-use Rattle.std.specs.List.{AllByRecursion as All}
+use Rattle.std.specs.List.{AllByRecursion}
 use Rattle.std.proofs.lemmas.Bool.{and_parts, leb-true, cases_lt, lt-ltb, le-ltb, le-leb, lt-leb}
 use Rattle.book.specs.Book.{Line, Book, all_keywords, among, has_number}
 use Rattle.book.specs.Layout.{distinct}
@@ -58,7 +58,7 @@ module _ {C S : Type 0} (hears : C → S → Bool) (b : Book C) (proper : Proper
         → any_fires column st (count h + 1) (watched_from (length (all_keywords before)) rest) n ≡ among n (numbers_reported hears rest (feed s ∷ h) (count h + 1))
     any before [] e n = refl
     any before (l ∷ rest) e n =
-        let q = all_split ProperLine before l rest (subst (All ProperLine) e proper.each) in
+        let q = all_split ProperLine before l rest (subst (AllByRecursion ProperLine) e proper.each) in
         let fired = one before l rest e ∙ sym (newest hears h s l) in
         let same = e ∙ sym (moved before l rest) in
         let rs = reported hears (feed s ∷ h) l (count h + 1) in
@@ -78,7 +78,7 @@ module _ {C S : Type 0} (hears : C → S → Bool) (b : Book C) (proper : Proper
     sums : (before rest : Book C) → b ≡ before ++ rest → due_points recent tick (watched_from (length (all_keywords before)) rest) ≡ points hears rest h tick
     sums before [] e = refl
     sums before (l ∷ rest) e =
-        let q = all_split ProperLine before l rest (subst (All ProperLine) e proper.each) in
+        let q = all_split ProperLine before l rest (subst (AllByRecursion ProperLine) e proper.each) in
         let i = tick - l.lag in
         let own = known l.lag l.number (leb-true l.lag 63 q.1.lag)
         ∙ ap (λ x. among l.number (numbers_reported hears x h i)) e

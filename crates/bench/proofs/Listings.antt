@@ -1,6 +1,6 @@
 -- The lines of a book by its rows.
 use Rattle.std.proofs.Common.{◌≡◌, ℕ, zero, suc, ◌+◌, ◌-◌, ◌<◌, ◌≤◌, true, leb, List, [], ◌∷◌, ◌++◌, map, length, get_or, take, drop, sym, refl, ap, ◌∙◌, subst, append_assoc, arith}
-use Rattle.std.specs.List.{AllByRecursion as All}
+use Rattle.std.specs.List.{AllByRecursion}
 use Rattle.std.proofs.ByRecursion.{All-get_or, All-append}
 use Rattle.std.proofs.lemmas.List.{length-append, length-map, map-append, take_at, drop_at}
 use Rattle.std.proofs.lemmas.Bool.{and_parts, leb-true}
@@ -35,7 +35,7 @@ module _ {C : Type 0} where
   row first l = record { number = l.number; points = l.points; lag = l.lag; first = first; keywords = length l.keywords }
 
   -- the span of a line by its rows is its span
-  row_wide : (before : Book C) (l : Line C) (behind : Book C) → All ProperLine before → ProperLine l
+  row_wide : (before : Book C) (l : Line C) (behind : Book C) → AllByRecursion ProperLine before → ProperLine l
       → row_span (keyword_rows (before ++ l ∷ behind)) (row (length (all_keywords before)) l) ≡ span l
   unfolding row_span row
   row_wide before l behind q p =
@@ -79,7 +79,7 @@ module _ {C : Type 0} where
   pub moved : (before : Book C) (l : Line C) (rest : Book C) → (before ++ l ∷ []) ++ rest ≡ before ++ l ∷ rest
   moved before l rest = append_assoc before (l ∷ []) rest
 
-  all_watched : (before rest : Book C) → All ProperLine (before ++ rest)
+  all_watched : (before rest : Book C) → AllByRecursion ProperLine (before ++ rest)
       → map (watched_row (keyword_rows (before ++ rest))) (line_rows_from (length (all_keywords before)) rest) ≡ watched_from (length (all_keywords before)) rest
   unfolding row
   all_watched before [] q = refl
@@ -95,16 +95,16 @@ module _ {C : Type 0} where
       let up = longer before l in
       let back = sym same in
       let down = sym up in
-      let more = all_watched (before ++ l ∷ []) rest (subst (All ProperLine) (sym same) q) in
+      let more = all_watched (before ++ l ∷ []) rest (subst (AllByRecursion ProperLine) (sym same) q) in
       let tail : map (watched_row (keyword_rows (before ++ l ∷ rest))) (line_rows_from (f + n) rest) ≡ watched_from (f + n) rest =
       (λ i. map (watched_row (keyword_rows (back i))) (line_rows_from (down i) rest)) ∙ more ∙ ap (λ x. watched_from x rest) up in
       λ i. here i ∷ tail i
 
   -- what is taken down of a book's rows are its lines
-  pub listed_book : (b : Book C) → All ProperLine b → map (watched_row (keyword_rows b)) (line_rows b) ≡ watched b
+  pub listed_book : (b : Book C) → AllByRecursion ProperLine b → map (watched_row (keyword_rows b)) (line_rows b) ≡ watched b
   listed_book b q = all_watched [] b q
 
-  all_listable : (before rest : Book C) → All ProperLine (before ++ rest) → All (ListableRow (keyword_rows (before ++ rest))) (line_rows_from (length (all_keywords before)) rest)
+  all_listable : (before rest : Book C) → AllByRecursion ProperLine (before ++ rest) → AllByRecursion (ListableRow (keyword_rows (before ++ rest))) (line_rows_from (length (all_keywords before)) rest)
   all_listable before [] q = tt
   all_listable before (l ∷ rest) q =
       let s = all_split ProperLine before l rest q in
@@ -117,8 +117,8 @@ module _ {C : Type 0} where
       let y = length-append l.keywords (all_keywords rest) in
       let same = moved before l rest in
       let up = longer before l in
-      let more = all_listable (before ++ l ∷ []) rest (subst (All ProperLine) (sym same) q) in
-      (record { inside = omega (arith, rows, words, x, y); points = s.1.points }, subst (λ x. All (ListableRow (keyword_rows x)) (line_rows_from (f + n) rest)) same (subst (λ x. All (ListableRow (keyword_rows ((before ++ l ∷ []) ++ rest))) (line_rows_from x rest)) up more))
+      let more = all_listable (before ++ l ∷ []) rest (subst (AllByRecursion ProperLine) (sym same) q) in
+      (record { inside = omega (arith, rows, words, x, y); points = s.1.points }, subst (λ x. AllByRecursion (ListableRow (keyword_rows x)) (line_rows_from (f + n) rest)) same (subst (λ x. AllByRecursion (ListableRow (keyword_rows ((before ++ l ∷ []) ++ rest))) (line_rows_from x rest)) up more))
 
   count-rows : (from : ℕ) (b : Book C) → length (line_rows_from from b) ≡ length b
   count-rows from [] = refl

@@ -1,6 +1,6 @@
 -- Lines and their numbers.
 use Rattle.std.proofs.Common.{◌≡◌, ℕ, ◌+◌, Bool, true, false, not, ◌&&◌, ◌||◌, eqb, List, [], ◌∷◌, ◌++◌, map, length, sym, refl, ap, ◌∙◌, subst, ⊎_elim}
-use Rattle.std.specs.List.{AllByRecursion as All}
+use Rattle.std.specs.List.{AllByRecursion}
 use Rattle.std.proofs.lemmas.Bool.{and_parts, not-true, or_parts, or_left, or_right, or_from, and_from, and_left, and_right, eq-eqb, ne_eqb, eqb-true, cases_Bool, cases_eq, both_ways}
 use Rattle.book.specs.Book.{Line, Book, among, has_number}
 use Rattle.book.specs.Layout.{distinct}
@@ -26,7 +26,7 @@ module _ {C : Type 0} where
   row_numbers from (l ∷ b) = ap (λ ns. l.number ∷ ns) (row_numbers (from + length l.keywords) b)
 
   -- every number of a book is 1 to 128
-  pub numbers_within : (b : Book C) (n : ℕ) → All ProperLine b → has_number n b ≡ true → within 1 128 n ≡ true
+  pub numbers_within : (b : Book C) (n : ℕ) → AllByRecursion ProperLine b → has_number n b ≡ true → within 1 128 n ≡ true
   numbers_within [] n q h = absurd (both_ways false refl h)
   numbers_within (l ∷ b) n q h =
       ⊎_elim
@@ -34,7 +34,7 @@ module _ {C : Type 0} where
       (λ other. numbers_within b n q.1 (sym (ap (λ t. t || has_number n b) other) ∙ h))
       (cases_Bool (eqb l.number n))
 
-  pub has_within : (b : Book C) (n : ℕ) → All ProperLine b → (within 1 128 n && has_number n b) ≡ has_number n b
+  pub has_within : (b : Book C) (n : ℕ) → AllByRecursion ProperLine b → (within 1 128 n && has_number n b) ≡ has_number n b
   has_within b n q =
       ⊎_elim
       (λ y. and_from _ _ (numbers_within b n q y) y ∙ sym y)

@@ -1,6 +1,6 @@
 -- Keywords that have ended are those that are spotted.
 use Rattle.std.proofs.Common.{◌≡◌, ℕ, zero, suc, ◌+◌, ◌-◌, ◌<◌, ◌≤◌, Bool, true, false, cond, ◌&&◌, ltb, leb, List, [], ◌∷◌, ◌++◌, map, reverse, length, take, sym, refl, ap, ◌∙◌, append_assoc, arith}
-use Rattle.std.specs.List.{flat_map, AllByRecursion as All, list_all}
+use Rattle.std.specs.List.{flat_map, AllByRecursion, list_all}
 use Rattle.std.proofs.lemmas.List.{take_all, length-map, length-append}
 use Rattle.std.proofs.ByRecursion.{All-append}
 use Rattle.std.proofs.lemmas.Bool.{lt-ltb, le-ltb, and_parts, leb-true}
@@ -19,7 +19,7 @@ rows_count p gs [] = refl
 rows_count p [] (n ∷ ns) = ap suc (rows_count (p + n) [] ns)
 rows_count p (g ∷ gs) (n ∷ ns) = ap suc (rows_count (p + n) gs ns)
 
-pub all_split : {X : Type 0} (P : X → Type 0) (xs : List X) (y : X) (zs : List X) → All P (xs ++ y ∷ zs) → All P xs × P y
+pub all_split : {X : Type 0} (P : X → Type 0) (xs : List X) (y : X) (zs : List X) → AllByRecursion P (xs ++ y ∷ zs) → AllByRecursion P xs × P y
 all_split P [] y zs h = (tt, h.0)
 all_split P (x ∷ xs) y zs h = let r = all_split P xs y zs h.1 in ((h.0, r.0), r.1)
 
@@ -27,12 +27,12 @@ module _ {C S : Type 0} (hears : C → S → Bool) (newest : List S) where
   Some : List C → Type 0
   Some w = 1 ≤ length w
 
-  words_some : (b : Book C) → All ProperLine b → All Some (all_keywords b)
+  words_some : (b : Book C) → AllByRecursion ProperLine b → AllByRecursion Some (all_keywords b)
   unfolding Some
   words_some [] q = tt
   words_some (l ∷ b) q = All-append Some l.keywords (all_keywords b) (each l.keywords q.0.lengths) (words_some b q.1)
     where
-      each : (ws : List (List C)) → list_all (λ k. length_ok (length k)) ws ≡ true → All Some ws
+      each : (ws : List (List C)) → list_all (λ k. length_ok (length k)) ws ≡ true → AllByRecursion Some ws
       each [] h = tt
       each (w ∷ ws) h = let p = and_parts (length_ok (length w)) _ h in (leb-true 1 (length w) (and_parts (leb 1 (length w)) _ p.0).0, each ws p.1)
 
@@ -40,7 +40,7 @@ module _ {C S : Type 0} (hears : C → S → Bool) (newest : List S) where
     chosen : List C → List (List C) → ℕ → Bool → Bool
     chosen w ws j t = cond t (admit_all hears (reverse (take (j + 1) w)) newest) (runs_among hears ws newest (j - length w))
 
-    ends_spotted : (ws : List (List C)) (gs : List ℕ) (f k : ℕ) → All Some ws → ((j : ℕ) → stood (f + j) ≡ runs_among hears ws newest j) → ends_among (keyword_rows_from f gs (map length ws)) stood k ≡ spotted_among hears ws newest k
+    ends_spotted : (ws : List (List C)) (gs : List ℕ) (f k : ℕ) → AllByRecursion Some ws → ((j : ℕ) → stood (f + j) ≡ runs_among hears ws newest j) → ends_among (keyword_rows_from f gs (map length ws)) stood k ≡ spotted_among hears ws newest k
     unfolding Some chosen
     ends_spotted [] gs f k q e = refl
     ends_spotted (w ∷ ws) gs f zero q e = first gs
@@ -67,7 +67,7 @@ module _ {C S : Type 0} (hears : C → S → Bool) (newest : List S) where
   past_book b k h = spotted_past (all_keywords b) k (let n = rows_count 0 (all_gaps b) (map length (all_keywords b)) in let m = length-map (all_keywords b) length in omega (arith, n))
 
   -- the keywords of a book that have ended, where its runs are those of the samples
-  pub spots : (b : Book C) (stood : ℕ → Bool) (k : ℕ) → All ProperLine b → ((p : ℕ) → stood p ≡ runs_among hears (all_keywords b) newest p) → ends b stood k ≡ spotted_among hears (all_keywords b) newest k
+  pub spots : (b : Book C) (stood : ℕ → Bool) (k : ℕ) → AllByRecursion ProperLine b → ((p : ℕ) → stood p ≡ runs_among hears (all_keywords b) newest p) → ends b stood k ≡ spotted_among hears (all_keywords b) newest k
   spots b stood k q e = ends_spotted stood (all_keywords b) (all_gaps b) 0 k (words_some b q) (λ j. let z : 0 + j ≡ j = omega arith in ap stood z ∙ e j)
 
 -- the number of a line's last keyword is one of the book's

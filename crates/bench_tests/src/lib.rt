@@ -1,4 +1,6 @@
 // Tests of benches over real finders: bands, and the letters of the worked example.
+#![tactic(auto)]
+
 #[cfg(test)]
 mod tests {
     use automaton::letters::{LetterAutomaton, NUMBERS};

@@ -1,6 +1,6 @@
 -- What a line keeps to that the rules let pass.
 use Rattle.std.proofs.Common.{◌≡◌, ℕ, ◌+◌, ◌≤◌, min, Bool, true, false, cond, not, eqb, leb, List, [], ◌∷◌, ◌++◌, length, is_ok, IfOk, IfErr, Ok, Err, Result, sym, refl, ap, ◌∙◌, arith}
-use Rattle.std.specs.List.{list_all, AllByRecursion as All}
+use Rattle.std.specs.List.{list_all, AllByRecursion}
 use Rattle.std.proofs.lemmas.Bool.{and_parts, leb-true, eqb-true, not-true}
 use Rattle.refusals.specs.declared.Refusal.{Refusal}
 use Rattle.book.specs.declared.open.OpenBook.{OpenBook}
@@ -20,7 +20,7 @@ first_holds true r rs e = (refl, e)
 first_holds false r rs e = let z : true ≡ false = cc in (sym z, cc)
 
 -- where no rule is broken, each holds
-all_hold : (rs : List (Bool × Refusal)) → judged rs ≡ Ok tt → All (λ r. r.0 ≡ true) rs
+all_hold : (rs : List (Bool × Refusal)) → judged rs ≡ Ok tt → AllByRecursion (λ r. r.0 ≡ true) rs
 all_hold [] e = tt
 all_hold (r ∷ rs) e = let p = first_holds r.0 r.1 rs e in (p.0, all_hold rs p.1)
 

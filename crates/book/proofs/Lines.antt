@@ -1,6 +1,6 @@
 -- Lines that are made of keywords one after another.
 use Rattle.std.proofs.Common.{◌≡◌, ℕ, zero, suc, ◌+◌, ◌-◌, ◌≤◌, Bool, true, eqb, List, [], ◌∷◌, ◌++◌, map, length, take, drop, sym, refl, ap, ◌∙◌, arith}
-use Rattle.std.specs.List.{list_all, AllByRecursion as All}
+use Rattle.std.specs.List.{list_all, AllByRecursion}
 use Rattle.std.proofs.lemmas.List.{length-take-le, length-drop, length-take, take-append-drop, take-append-le, drop-append-le, nil_from_length, length-map, take-map, drop-map}
 use Rattle.std.proofs.lemmas.Bool.{and_parts, and_from, eqb-true, leb-true}
 use Rattle.book.specs.declared.rows.LineRow.{LineRow}
@@ -77,7 +77,7 @@ module _ {C : Type 0} where
       ∙ ap (λ gs. take n (map (λ k. k.gap) rows) ++ gs) r ∙ take-append-drop n (map (λ k. k.gap) rows)
 
   pub all_proper : (ls : List LineRow) (gs : List ℕ) (ks : List (List C)) → size ls ≡ length gs → size ls ≡ length ks
-      → list_all line_ok ls ≡ true → list_all gap_ok gs ≡ true → list_all (λ k. length_ok (length k)) ks ≡ true → All ProperLine (lines_from ls gs ks)
+      → list_all line_ok ls ≡ true → list_all gap_ok gs ≡ true → list_all (λ k. length_ok (length k)) ks ≡ true → AllByRecursion ProperLine (lines_from ls gs ks)
   all_proper [] gs ks e f p q r = tt
   all_proper (l ∷ ls) gs ks e f p q r =
       let n : ℕ = l.keywords in

@@ -1,6 +1,6 @@
 -- What every book keeps to.
 use Rattle.std.specs.Prelude.{◌≡◌, ℕ, ◌+◌, ◌<◌, ◌≤◌, true, List, map, length, slice_index_or}
-use Rattle.std.specs.List.{list_all, AllByRecursion as All}
+use Rattle.std.specs.List.{list_all, AllByRecursion}
 use Rattle.book.specs.declared.rows.KeywordRow.{KeywordRow}
 use Rattle.book.specs.Book.{Line, Book, all_keywords, all_cells}
 use Rattle.book.specs.Layout.{distinct}
@@ -18,7 +18,7 @@ pub record ProperLine {C : Type 0} (l : Line C) : Type 0 where
 
 -- a book of such lines, whose numbers are distinct, within the book's own limits
 pub record Proper {C : Type 0} (b : Book C) : Type 0 where
-  pub each : All ProperLine b
+  pub each : AllByRecursion ProperLine b
   pub apart : distinct (map (λ l. l.number) b) ≡ true
   pub lines : length b ≤ 128
   pub keywords : length (all_keywords b) ≤ 512

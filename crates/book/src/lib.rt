@@ -1,4 +1,6 @@
 // The start book: an open book takes lines, a sealed book tells them.
+#![tactic(auto)]
+
 pub mod entering;
 pub mod entries;
 pub mod ledgers;

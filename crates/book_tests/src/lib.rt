@@ -1,4 +1,5 @@
 // Tests of the start book: every refusal of a line at its first and last value, on both sides.
+#![tactic(auto)]
 
 #[cfg(test)]
 mod tests {

@@ -1,4 +1,6 @@
 // Samples, symbols and cells: what arrives, what it is read as, and what a keyword is made of.
+#![tactic(auto)]
+
 pub mod bands;
 pub mod kinds;
 pub mod letters;

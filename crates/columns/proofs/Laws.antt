@@ -1,6 +1,6 @@
 -- Laws of columns and of sets of line numbers, for the crates that use them.
 use Rattle.std.proofs.Common.{◌≡◌, ℕ, ◌+◌, ◌*◌, ◌^◌, ◌<◌, ◌≤◌, true, false, [], ◌∷◌, length, get_or, sym, refl, ap, ◌∙◌, arith, MatchOption}
-use Rattle.std.specs.List.{ContainsAt as Has, AllByRecursion as All}
+use Rattle.std.specs.List.{ContainsAt, AllByRecursion}
 use Rattle.std.proofs.lemmas.Iterator.{YieldsList}
 use Rattle.std.proofs.lemmas.Iterator.Consumers.{YieldsList-from_shown}
 use Rattle.std.proofs.lemmas.List.{ext_get_or}
@@ -56,10 +56,10 @@ member_number s n h = (set_from s.bits n h, omega (arith, set_below s.bits n h))
 
 -- The list of the members: each is a member, each member is there, there are 128 at most, and sets with the same members
 -- have the same list.
-pub rising_members : (s : Numbers) → All (λ n. member s n ≡ true) (rising s)
+pub rising_members : (s : Numbers) → AllByRecursion (λ n. member s n ≡ true) (rising s)
 rising_members s = passing_each (member s) 1 128
 
-pub rising_has : (s : Numbers) (n : ℕ) → member s n ≡ true → Has (rising s) n
+pub rising_has : (s : Numbers) (n : ℕ) → member s n ≡ true → ContainsAt (rising s) n
 rising_has s n h = let i = member_number s n h in passing_has (member s) 1 128 n i.0 (omega arith) h
 
 pub length-rising : (s : Numbers) → length (rising s) ≤ 128

@@ -1,6 +1,6 @@
 -- Lemmas on the numbers that pass a test, in rising order.
 use Rattle.std.proofs.Common.{◌≡◌, ℕ, zero, suc, ◌+◌, ◌-◌, ◌<◌, ◌≤◌, Bool, true, [], ◌∷◌, length, refl, inl, inr, arith}
-use Rattle.std.specs.List.{range_with_len, ContainsAt as Has, AllByRecursion as All}
+use Rattle.std.specs.List.{range_with_len, ContainsAt, AllByRecursion}
 use Rattle.std.proofs.lemmas.List.FromFn.{length-range_with_len}
 use Rattle.std.proofs.ByRecursion.{kept_by_passes, has_append_right}
 use Rattle.std.proofs.lemmas.List.Sums.{length-filter, count_by-le-length}
@@ -8,11 +8,11 @@ use Rattle.std.proofs.lemmas.Bool.{cases_eq, cases_Bool}
 use Rattle.columns.specs.Passing.{passing, NoneFrom, LeastFrom}
 
 -- Each passes, and each that passes is there.
-pub passing_each : (p : ℕ → Bool) (a n : ℕ) → All (λ k. p k ≡ true) (passing p a n)
+pub passing_each : (p : ℕ → Bool) (a n : ℕ) → AllByRecursion (λ k. p k ≡ true) (passing p a n)
 unfolding passing
 passing_each p a n = kept_by_passes p (range_with_len a n)
 
-pub passing_has : (p : ℕ → Bool) (a n m : ℕ) → a ≤ m → m < a + n → p m ≡ true → Has (passing p a n) m
+pub passing_has : (p : ℕ → Bool) (a n m : ℕ) → a ≤ m → m < a + n → p m ≡ true → ContainsAt (passing p a n) m
 unfolding passing
 passing_has p a zero m lo hi t = absurd (omega arith)
 passing_has p a (suc n) m lo hi t =

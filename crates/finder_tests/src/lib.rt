@@ -1,4 +1,5 @@
 // One table of books and traces that every finder runs through.
+#![tactic(auto)]
 
 #[cfg(test)]
 mod tables;

@@ -1,4 +1,6 @@
 // Where pages and rows lie in the input of a program.
+#![tactic(auto)]
+
 ghost use Rattle.std.specs.Prelude.{◌≡◌, ◌+◌, ◌≤◌, true, length, take, drop};
 ghost use Rattle.inputs.specs.Parts.{page_length, row_length};
 

@@ -1,3 +1,5 @@
 // The look-back ring: at each tick, which prefixes of lines end.
+#![tactic(auto)]
+
 pub mod links;
 pub mod lookbacks;

@@ -1,7 +1,7 @@
 -- A line where it stands in its book.
 use Rattle.std.proofs.Common.{◌≡◌, ℕ, zero, suc, ◌+◌, ◌-◌, ◌<◌, ◌≤◌, Bool, true, false, ◌&&◌, ◌||◌, eqb, leb, List, [], ◌∷◌, ◌++◌, map, reverse, length, get_or, take, drop, sym, refl, ap, ◌∙◌, ⊎_elim, append_assoc, arith}
 use mathlib.Core.List.{reverse-append}
-use Rattle.std.specs.List.{flat_map, list_all, AllByRecursion as All}
+use Rattle.std.specs.List.{flat_map, list_all, AllByRecursion}
 use Rattle.std.proofs.lemmas.List.{length-append, get_or-append-add, get_or_append_left, get_or-map, length-map, map-append, take_more, take_all, reverse-reverse}
 use Rattle.std.proofs.lemmas.Bool.{and_parts, leb-true, eq-eqb, ne_eqb, or_left, or_from}
 use Rattle.book.specs.declared.rows.LineRow.{LineRow}
@@ -44,7 +44,7 @@ module _ {C : Type 0} where
   none_before from (l ∷ b) k h = or_from _ _ (ne_eqb from k (λ e. omega arith)) (none_before (from + length l.keywords) b k (omega arith))
 
   -- which keywords of a line open it
-  opens_in : (b₁ : Book C) (l : Line C) (b₂ : Book C) (from i : ℕ) → All ProperLine b₁ → i < length l.keywords
+  opens_in : (b₁ : Book C) (l : Line C) (b₂ : Book C) (from i : ℕ) → AllByRecursion ProperLine b₁ → i < length l.keywords
       → opens (line_rows_from from (b₁ ++ l ∷ b₂)) (from + length (all_keywords b₁) + i) ≡ eqb i 0
   opens_in [] l b₂ from zero q h = or_left _ _ (eq-eqb from (from + 0 + 0) (omega arith))
   opens_in [] l b₂ from (suc i) q h = or_from _ _ (ne_eqb from (from + 0 + suc i) (λ e. omega arith)) (none_before (from + length l.keywords) b₂ (from + 0 + suc i) (omega arith)) ∙ sym (ne_eqb (suc i) 0 (λ e. omega arith))
@@ -59,7 +59,7 @@ module _ {C : Type 0} where
       skip : {a b : Bool} → a ≡ false → (a || b) ≡ b
       skip {a} {b} e = ap (λ t. t || b) e
 
-  pub gaps_even : (b : Book C) → All ProperLine b → length (all_gaps b) ≡ length (all_keywords b)
+  pub gaps_even : (b : Book C) → AllByRecursion ProperLine b → length (all_gaps b) ≡ length (all_keywords b)
   gaps_even [] q = refl
   gaps_even (l ∷ b) q =
       let r = gaps_even b q.1 in
@@ -98,7 +98,7 @@ module _ {C : Type 0} where
       ap (λ r. x ∷ r) (upto_is (q ∷ ps) i (omega arith) ∙ ap (λ k. reverse (take k (q ∷ ps))) z)
       ∙ sym (ap reverse (take_more (q ∷ ps) (suc i) (0, []) h) ∙ reverse-append (take (suc i) (q ∷ ps)) (x ∷ []))
 
-module _ {C S : Type 0} (hears : C → S → Bool) (b₁ : Book C) (l : Line C) (b₂ : Book C) (q₁ : All ProperLine b₁) (q : ProperLine l) where
+module _ {C S : Type 0} (hears : C → S → Bool) (b₁ : Book C) (l : Line C) (b₂ : Book C) (q₁ : AllByRecursion ProperLine b₁) (q : ProperLine l) where
   b : Book C
   b = b₁ ++ l ∷ b₂
 

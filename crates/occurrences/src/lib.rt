@@ -1,4 +1,6 @@
 // What an occurrence of a line is, and which mark of the look-back ring tells it.
+#![tactic(auto)]
+
 ghost use Rattle.std.specs.Prelude.{◌≡◌, ◌+◌, ◌-◌};
 ghost use Rattle.occurrences.specs.Marked.{LastMark};
 

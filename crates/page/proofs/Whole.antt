@@ -5,7 +5,7 @@ use Rattle.std.proofs.lemmas.Bool.{and_parts, and_from, cond-false, not-true, le
 use Rattle.std.proofs.lemmas.Bool.Decides.{nat_tests}
 use Rattle.std.specs.Option.{option_or}
 use Rattle.std.specs.Fmt.{signed_decimal}
-use Rattle.std.specs.List.{list_all, AllByRecursion as All}
+use Rattle.std.specs.List.{list_all, AllByRecursion}
 use Rattle.cells.specs.declared.letters.LetterCell.{LetterCell}
 use Rattle.cells.specs.Alphabet.{is_letter}
 use Rattle.book.specs.Book.{Line, Book}
@@ -89,7 +89,7 @@ line_told l ok b memory =
     ap (λ o. option_or o (book_flaw (row_request (row_of l)).gaps (enter_answer b memory (row_request (row_of l))))) (clean_row l ok)
     ∙ ap (λ (q : Request LetterCell). book_flaw q.gaps (enter_answer b memory q)) (request_back l ok)
 
-lines_entered : (n : ℕ) (ls : List (Line LetterCell)) → All ProperLine ls → (b : Book LetterCell) (cells : List LetterCell)
+lines_entered : (n : ℕ) (ls : List (Line LetterCell)) → AllByRecursion ProperLine ls → (b : Book LetterCell) (cells : List LetterCell)
     → enter_rows n (rows_of (page_of ls)) b cells ≡ enter_lines n ls b cells
 unfolding enter_rows enter_lines rows_of
 lines_entered n [] h b cells = refl

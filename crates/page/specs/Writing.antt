@@ -1,6 +1,6 @@
 -- A line written as a row, and the law that reading it gives the line back.
 use Rattle.std.specs.Prelude.{◌≡◌, ℕ, ◌+◌, ◌-◌, List, [], ◌∷◌, ◌++◌, map, length, replicate, None, Ok, decimal}
-use Rattle.std.specs.List.{flat_map, AllByRecursion as All}
+use Rattle.std.specs.List.{flat_map, AllByRecursion}
 use Rattle.std.specs.Fmt.{signed_decimal}
 use Rattle.cells.specs.declared.letters.LetterCell.{LetterCell}
 use Rattle.book.specs.Book.{Line, Book}
@@ -71,4 +71,4 @@ enter_lines n (l ∷ ls) b cells =
 
 -- a page of lines within their limits does what entering the lines in turn does, for every book and memory
 abbrev pub EntersLines : Type 0
-EntersLines = (ls : List (Line LetterCell)) → All ProperLine ls → (b : Book LetterCell) (cells : List LetterCell) → page_outcome b cells (page_of ls) ≡ enter_lines 1 ls b cells
+EntersLines = (ls : List (Line LetterCell)) → AllByRecursion ProperLine ls → (b : Book LetterCell) (cells : List LetterCell) → page_outcome b cells (page_of ls) ≡ enter_lines 1 ls b cells

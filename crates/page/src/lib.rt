@@ -1,4 +1,6 @@
 // A page of rows of bytes: reads each row as a line, and enters it in an open book of letter cells.
+#![tactic(auto)]
+
 mod drafts;
 mod entering;
 pub mod faults;

@@ -1,4 +1,5 @@
 // Tests of the page: damaged rows, with each fault at its first and last column.
+#![tactic(auto)]
 
 #[cfg(test)]
 mod tests {

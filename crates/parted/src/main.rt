@@ -1,5 +1,7 @@
 // parted: reads two pages and then commands from standard input. The whole book has the lines of both pages, and each
 // part those of one. It gives every command to three benches and prints what they answer, side by side.
+#![tactic(auto)]
+
 mod parsing;
 mod showing;
 

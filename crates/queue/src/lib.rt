@@ -1,3 +1,5 @@
+#![tactic(auto)]
+
 ghost use Rattle.std.specs.Prelude.{◌≡◌, ℕ, ◌+◌, ◌-◌, ◌<◌, ◌≤◌, [], ◌∷◌, ◌++◌, length, MatchOption, slice_index_or, slice_set};
 ghost use Rattle.queue.specs.Queued.{waiting, queued, room};
 ghost use Rattle.queue.specs.Places.{start, past, back};

@@ -1,4 +1,6 @@
 // The refusal table: every refusal that a call of the start watcher gives, with its number.
+#![tactic(auto)]
+
 ghost use Rattle.std.specs.Prelude.{◌≡◌};
 ghost use Rattle.refusals.specs.Numbers.{number_of};
 

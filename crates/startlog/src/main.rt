@@ -1,5 +1,7 @@
 // startlog: enters the worked example's lines in a book, prints what the sealed book holds, and prints the ticks of the
 // worked example's trace at which keywords end.
+#![tactic(auto)]
+
 mod example;
 mod finding;
 mod showing;

@@ -1,4 +1,6 @@
 // The tray: reports that wait to be taken, in the caller's memory.
+#![tactic(auto)]
+
 ghost use Rattle.std.specs.Prelude.{◌≡◌, [], length};
 ghost use Rattle.queue.specs.Answers.{put_after, put_slots, first, rest};
 ghost use Rattle.tray.specs.Waiting.{reports, places, put_answer};

@@ -1,6 +1,6 @@
 -- The trials: books, calls, and what is reported and due at each tick.
 use Rattle.std.specs.Prelude.{◌≡◌, ℕ, List, [], ◌∷◌, ◌++◌, map, replicate, ℤ, pos, negsuc, Ok, Err, codes}
-use Rattle.std.specs.List.{range_with_len, flat_map, AllByRecursion as All}
+use Rattle.std.specs.List.{range_with_len, flat_map, AllByRecursion}
 use Rattle.cells.specs.declared.letters.LetterCell.{LetterCell}
 use Rattle.cells.specs.Alphabet.{is_letter}
 use Rattle.cells.specs.Letters.{letter_cell_of, letter_hears}
@@ -96,4 +96,4 @@ trials =
 
 -- each trial shows what it is expected to show
 abbrev pub TrialsHold : Type 0
-TrialsHold = All (λ t. shows t ≡ t.shown) trials
+TrialsHold = AllByRecursion (λ t. shows t ≡ t.shown) trials

@@ -1,4 +1,6 @@
 // The trials, proved about the defined reports and points.
+#![tactic(auto)]
+
 ghost use Rattle.std.specs.Prelude.{◌≡◌, length};
 ghost use Rattle.trials.specs.Trials.{trials, TrialsHold};
 

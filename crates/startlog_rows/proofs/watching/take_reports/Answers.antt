@@ -1,7 +1,7 @@
 use Rattle.std.proofs.Common.{◌≡◌, ℕ, ◌<◌, List, [], ◌∷◌, length, Some, None, sym, ap, subst, arith}
 use Rattle.queue.specs.Answers.{first, rest}
 use Rattle.tray.specs.Waiting.{reports}
-use Rattle.startlog.proofs.watching.take_reports.Goals as goal
+use Rattle.startlog_rows.proofs.watching.take_reports.Goals as goal
 
 -- one waits less once one is taken
 shorter : {X : Type 0} (xs : List X) (x : X) → Some x ≡ first xs → length (rest xs) < length xs

@@ -1,5 +1,5 @@
 use Rattle.std.proofs.Common.{◌+◌, ◌-◌, ◌∷◌, length, ap, ◌∙◌, subst, arith}
-use Rattle.std.specs.List.{AllByRecursion as All}
+use Rattle.std.specs.List.{AllByRecursion}
 use Rattle.book.specs.Book.{all_keywords}
 use Rattle.book.specs.Proper.{ProperLine}
 use Rattle.book.specs.Rows.{line_rows, keyword_rows}
@@ -19,7 +19,7 @@ returns g c =
       };
       occur = λ b newest s r heard before l behind e.
           let k = length (all_keywords before) + (length l.keywords - 1) in
-          let q = all_split ProperLine before l behind (subst (All ProperLine) e r.finder.proper.each) in
+          let q = all_split ProperLine before l behind (subst (AllByRecursion ProperLine) e r.finder.proper.each) in
           let below = last_below before l behind q.1 in
           let n = ap (λ x. length (all_keywords x)) e in
           c.step.ensures.shows.prefixes (line_rows b) (keyword_rows b) (pasts hears b newest) (spotted_among hears (all_keywords b) (s ∷ newest)) r.ring (c.spot-ended.ensures.spots b newest s r.finder heard).ended k (omega (arith, r.finder.proper.keywords))
