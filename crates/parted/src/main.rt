@@ -15,6 +15,7 @@ use page::faults::Fault;
 use page::pages::enter_page;
 use parting::commands::{Answer, Trio};
 use parting::runs::run_parted;
+use std::alloc::Global;
 use std::io::{BufWriter, Read, Write};
 
 /// The cells of each of the three books.
@@ -38,7 +39,7 @@ fn enter_both(
 }
 
 // Enters the pages, runs the commands on three benches, and writes what they answer.
-fn compare(rt: &HostRuntime, input: &[u8], out: &mut impl Write) -> anyhow::Result<()> {
+fn compare(alloc: Global, input: &[u8], out: &mut impl Write) -> anyhow::Result<()> {
     let (makers, rest) = split_page(input);
     let (yards, rest) = split_page(rest);
     let Ok(blank) = LetterCell::new(b'A') else {
@@ -58,8 +59,8 @@ fn compare(rt: &HostRuntime, input: &[u8], out: &mut impl Write) -> anyhow::Resu
         showing::write_fault(out, "second", fault)?;
         return Ok(());
     }
-    let rows = parsing::read_rows(rt.alloc(), rest)?;
-    let mut log = vec![in rt.alloc(); UNWRITTEN; rows.commands.len()]?;
+    let rows = parsing::read_rows(alloc, rest)?;
+    let mut log = vec![in alloc; UNWRITTEN; rows.commands.len()]?;
     let mut whole_numbers = [0u16; NUMBERS];
     let mut second_numbers = [0u16; NUMBERS];
     run_parted(
@@ -77,7 +78,7 @@ fn run(rt: &HostRuntime) -> anyhow::Result<()> {
     let mut input = Vec::new(rt.alloc());
     rt.stdin().read_to_end(&mut input)?;
     let mut out = BufWriter::new(rt.alloc(), rt.stdout())?;
-    compare(rt, &input, &mut out)?;
+    compare(rt.alloc(), &input, &mut out)?;
     out.flush()?;
     Ok(())
 }
@@ -92,9 +93,9 @@ mod tests {
     use std::test::*;
 
     // Whether an input of rows gives the output.
-    fn compares(rt: &HostRuntime, input: &[u8], output: &[u8]) -> Result<(), Fail> {
+    fn compares(rt: &(impl Abort + AllocGlobal), input: &[u8], output: &[u8]) -> Result<(), Fail> {
         let mut out = Vec::new(rt.alloc());
-        compare(rt, input, &mut out)?;
+        compare(rt.alloc(), input, &mut out)?;
         assert!(out.as_slice() == output);
         Ok(())
     }
