@@ -90,13 +90,14 @@ fn main(rt: HostRuntime) -> anyhow::Result<()> {
 #[cfg(test)]
 mod tests {
     use super::*;
-    use std::test::*;
+    use std::process::Abort;
+    use std::test::Fail;
 
     // Whether an input of rows gives the output.
     fn compares(rt: &(impl Abort + AllocGlobal), input: &[u8], output: &[u8]) -> Result<(), Fail> {
         let mut out = Vec::new(rt.alloc());
         compare(rt.alloc(), input, &mut out)?;
-        assert!(out.as_slice() == output);
+        assert!(rt; out.as_slice() == output);
         Ok(())
     }
 

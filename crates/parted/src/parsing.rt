@@ -64,7 +64,7 @@ fn read_command(row: &[u8]) -> Result<Command<u8>, usize> {
     if let Some(bytes) = row.strip_prefix(b"standing ") {
         return Ok(Command::Standing(read_number(9, bytes)?));
     }
-    if row == b"clear" {
+    if row == b"clear".as_slice() {
         return Ok(Command::Clear);
     }
     Err(1)
