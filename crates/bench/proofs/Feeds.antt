@@ -1,5 +1,5 @@
 -- One tick of a bench's life.
-use Rattle.std.proofs.Common.{◌≡◌, ℕ, ◌+◌, ◌-◌, ◌<◌, ◌≤◌, Bool, true, false, cond, ltb, List, [], ◌∷◌, ℤ, is_ok, Ok, Err, sym, refl, ap, ◌∙◌, subst, ⊎_elim, arith}
+use Rattle.std.proofs.Common.{◌≡◌, ℕ, ◌+◌, ◌-◌, ◌<◌, ◌≤◌, Bool, true, cond, [], ◌∷◌, ℤ, is_ok, Ok, Err, sym, ap, ◌∙◌, subst, ⊎_elim, arith}
 use mathlib.Core.Path.{fun_ext}
 use Rattle.std.proofs.lemmas.Bool.{cases_eq, lt-ltb}
 use Rattle.refusals.specs.declared.Refusal.TheVariants.{NoSymbol, TicksSpent}
@@ -8,10 +8,10 @@ use Rattle.columns.specs.declared.marks.Column.{Column}
 use Rattle.columns.specs.declared.numbers.Numbers.{Numbers}
 use Rattle.columns.specs.Numbers.{member}
 use Rattle.history.specs.Answers.{verdict, after}
-use Rattle.history.specs.Calls.{Call, feed, History, samples, count}
+use Rattle.history.specs.Calls.{feed, History, samples, count}
 use Rattle.history.specs.Points.{points}
 use Rattle.history.specs.Reports.{numbers_reported}
-use Rattle.history.specs.Told.{Told, told_of, feed_answer}
+use Rattle.history.specs.Told.{told_of, feed_answer}
 use Rattle.lookback.specs.declared.lookbacks.Lookback.{Lookback}
 use Rattle.standings.specs.Turning.{standing_at}
 use Rattle.bench.specs.declared.desks.Desk.{Desk}

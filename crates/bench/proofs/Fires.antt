@@ -1,5 +1,5 @@
 -- The lines that fire are those that are reported, and the points that are due are the tick's.
-use Rattle.std.proofs.Common.{◌≡◌, ℕ, ◌+◌, ◌-◌, ◌<◌, ◌≤◌, Bool, true, false, cond, ◌&&◌, ◌||◌, eqb, ltb, leb, List, [], ◌∷◌, ◌++◌, map, reverse, length, ℤ, pos, ◌+ℤ◌, sym, refl, ap, ◌∙◌, subst, ⊎_elim, append_assoc, arith}
+use Rattle.std.proofs.Common.{◌≡◌, ℕ, ◌+◌, ◌-◌, ◌≤◌, Bool, true, false, cond, ◌&&◌, ◌||◌, ltb, leb, [], ◌∷◌, ◌++◌, map, reverse, length, ℤ, pos, ◌+ℤ◌, sym, refl, ap, ◌∙◌, subst, ⊎_elim, arith}
 use Rattle.std.specs.List.{AllByRecursion}
 use Rattle.std.proofs.lemmas.Bool.{and_parts, leb-true, cases_lt, lt-ltb, le-ltb, le-leb, lt-leb}
 use Rattle.book.specs.Book.{Line, Book, all_keywords, among, has_number}
@@ -7,8 +7,7 @@ use Rattle.book.specs.Layout.{distinct}
 use Rattle.book.specs.Proper.{ProperLine, Proper}
 use Rattle.columns.specs.declared.marks.Column.{Column}
 use Rattle.columns.specs.Marks as marks
-use Rattle.columns.specs.Numbers.{is_number}
-use Rattle.history.specs.Calls.{Call, feed, History, samples, count}
+use Rattle.history.specs.Calls.{feed, History, samples, count}
 use Rattle.history.specs.Points.{points}
 use Rattle.history.specs.Reports.{reported, reports, numbers_reported}
 use Rattle.history.specs.Standing.{is_armed, mark}

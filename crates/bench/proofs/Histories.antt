@@ -1,8 +1,8 @@
 -- Facts about histories.
-use Rattle.std.proofs.Common.{◌≡◌, ℕ, zero, suc, ◌+◌, ◌<◌, ◌≤◌, Bool, true, false, ◌&&◌, ◌||◌, eqb, List, [], ◌∷◌, ◌++◌, map, length, sym, refl, ap, ◌∙◌, arith}
+use Rattle.std.proofs.Common.{◌≡◌, ℕ, ◌+◌, ◌≤◌, Bool, true, false, ◌&&◌, ◌||◌, eqb, [], ◌∷◌, length, refl, ap, arith}
 use Rattle.std.proofs.lemmas.Bool.{ne_eqb, eq-eqb}
 use Rattle.book.specs.Book.{Line, Book, among}
-use Rattle.history.specs.Calls.{Call, feed, arm, rest, clear, History, samples, count}
+use Rattle.history.specs.Calls.{feed, arm, rest, clear, History, samples, count}
 use Rattle.history.specs.Reports.{reported, reports, numbers_reported}
 
 -- as many ticks were counted as samples came

@@ -1,8 +1,8 @@
 -- What a call leaves of a bench's life as it was.
-use Rattle.std.proofs.Common.{◌≡◌, ℕ, ◌+◌, ◌<◌, ◌≤◌, Bool, true, false, List, [], ◌∷◌, is_ok, sym, refl, ap, ◌∙◌, subst}
+use Rattle.std.proofs.Common.{◌≡◌, ℕ, ◌+◌, ◌<◌, ◌≤◌, Bool, true, false, [], ◌∷◌, is_ok, sym, refl, ap, ◌∙◌, subst}
 use Rattle.book.specs.Book.{Book, among}
 use Rattle.history.specs.Answers.{verdict, after}
-use Rattle.history.specs.Calls.{Call, feed, arm, rest, clear, History, samples, count}
+use Rattle.history.specs.Calls.{arm, rest, clear, History, samples, count}
 use Rattle.history.specs.Reports.{numbers_reported}
 use Rattle.standings.specs.declared.tables.Standings.{Standings}
 use Rattle.standings.specs.declared.turns.Turn.{Turn}

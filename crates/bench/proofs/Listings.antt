@@ -1,7 +1,7 @@
 -- The lines of a book by its rows.
-use Rattle.std.proofs.Common.{◌≡◌, ℕ, zero, suc, ◌+◌, ◌-◌, ◌<◌, ◌≤◌, true, leb, List, [], ◌∷◌, ◌++◌, map, length, get_or, take, drop, sym, refl, ap, ◌∙◌, subst, append_assoc, arith}
+use Rattle.std.proofs.Common.{◌≡◌, ℕ, suc, ◌+◌, ◌-◌, ◌≤◌, leb, List, [], ◌∷◌, ◌++◌, map, length, take, drop, sym, refl, ap, ◌∙◌, subst, append_assoc, arith}
 use Rattle.std.specs.List.{AllByRecursion}
-use Rattle.std.proofs.ByRecursion.{All-get_or, All-append}
+use Rattle.std.proofs.ByRecursion.{All-get_or}
 use Rattle.std.proofs.lemmas.List.{length-append, length-map, map-append, take_at, drop_at}
 use Rattle.std.proofs.lemmas.Bool.{and_parts, leb-true}
 use Rattle.book.specs.declared.rows.LineRow.{LineRow}
@@ -12,7 +12,6 @@ use Rattle.book.specs.Proper.{ProperLine, Proper}
 use Rattle.book.specs.Rows.{line_rows, line_rows_from, keyword_rows, keyword_rows_from}
 use Rattle.occurrences.specs.Occurring.{span}
 use Rattle.occurrences.proofs.InBook.{joined-append, gaps_even}
-use Rattle.bench.specs.declared.lines.Watched.{Watched}
 use Rattle.bench.specs.Listed.{row_span, watched_row, watched_from, watched, ListableRow, Listable}
 use Rattle.bench.proofs.Spots.{rows_count, all_split}
 

@@ -1,7 +1,7 @@
 -- Lines and their numbers.
-use Rattle.std.proofs.Common.{◌≡◌, ℕ, ◌+◌, Bool, true, false, not, ◌&&◌, ◌||◌, eqb, List, [], ◌∷◌, ◌++◌, map, length, sym, refl, ap, ◌∙◌, subst, ⊎_elim}
+use Rattle.std.proofs.Common.{◌≡◌, ℕ, ◌+◌, Bool, true, false, not, ◌&&◌, ◌||◌, eqb, [], ◌∷◌, ◌++◌, map, length, sym, refl, ap, ◌∙◌, subst, ⊎_elim}
 use Rattle.std.specs.List.{AllByRecursion}
-use Rattle.std.proofs.lemmas.Bool.{and_parts, not-true, or_parts, or_left, or_right, or_from, and_from, and_left, and_right, eq-eqb, ne_eqb, eqb-true, cases_Bool, cases_eq, both_ways}
+use Rattle.std.proofs.lemmas.Bool.{and_parts, not-true, or_parts, or_left, or_right, or_from, and_from, and_right, eq-eqb, ne_eqb, eqb-true, cases_Bool, cases_eq, both_ways}
 use Rattle.book.specs.Book.{Line, Book, among, has_number}
 use Rattle.book.specs.Layout.{distinct}
 use Rattle.book.specs.Proper.{ProperLine}

@@ -2,7 +2,7 @@
 use Rattle.std.specs.Prelude.{◌≡◌, ℕ, ◌+◌, ◌-◌, ◌<◌, ◌≤◌, true, List, [], ◌∷◌, map, length, take, drop, slice_index_or}
 use Rattle.book.specs.declared.rows.LineRow.{LineRow}
 use Rattle.book.specs.declared.rows.KeywordRow.{KeywordRow}
-use Rattle.book.specs.Book.{Line, Book}
+use Rattle.book.specs.Book.{Book}
 use Rattle.book.specs.Cutting.{total}
 use Rattle.book.specs.Rules.{points_ok}
 use Rattle.occurrences.specs.Occurring.{span}

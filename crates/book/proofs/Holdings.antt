@@ -1,5 +1,5 @@
 -- What a ledger's promises say of the book that it holds.
-use Rattle.std.proofs.Common.{◌≡◌, ℕ, zero, suc, ◌+◌, ◌≤◌, Bool, true, leb, List, [], ◌∷◌, ◌++◌, map, length, take, sym, refl, ap, ◌∙◌, subst, arith}
+use Rattle.std.proofs.Common.{◌≡◌, ℕ, zero, suc, ◌+◌, ◌≤◌, true, leb, List, [], ◌∷◌, map, length, take, sym, ap, ◌∙◌, subst, arith}
 use Rattle.std.specs.List.{flat_map, list_all}
 use Rattle.std.proofs.lemmas.List.{length-take-le, length-map}
 use Rattle.std.proofs.lemmas.Bool.{and_parts, leb-true}
@@ -7,13 +7,13 @@ use Rattle.book.specs.declared.rows.LineRow.{LineRow}
 use Rattle.book.specs.declared.rows.KeywordRow.{KeywordRow}
 use Rattle.book.specs.declared.ledgers.Ledger.{Ledger}
 use Rattle.book.specs.Admitted.{lines_in, keywords_in}
-use Rattle.book.specs.Book.{Book, all_keywords, all_cells, all_gaps}
+use Rattle.book.specs.Book.{all_keywords, all_cells, all_gaps}
 use Rattle.book.specs.Cutting.{total, cut}
 use Rattle.book.specs.Layout.{distinct, keywords_laid, keyword_ok}
-use Rattle.book.specs.Proper.{Proper, ProperLine, AllFit}
+use Rattle.book.specs.Proper.{Proper, AllFit}
 use Rattle.book.specs.Rows.{line_rows, keyword_rows, keyword_rows_from}
 use Rattle.book.specs.Rules.{length_ok, gap_ok}
-use Rattle.book.specs.Stored.{held, lines_from}
+use Rattle.book.specs.Stored.{held}
 use Rattle.book.proofs.Cuts.{laid_parts, laid_total, length_cut, lengths-cut, joined-cut}
 use Rattle.book.proofs.Lines.{size, keywords_again, numbers_again, rows_again, gaps_again, all_proper, keyword_rows_again}
 use Rattle.book.proofs.Passes.{pass_map, pass_weaker}

@@ -1,13 +1,13 @@
 -- Lines that are made of keywords one after another.
-use Rattle.std.proofs.Common.{◌≡◌, ℕ, zero, suc, ◌+◌, ◌-◌, ◌≤◌, Bool, true, eqb, List, [], ◌∷◌, ◌++◌, map, length, take, drop, sym, refl, ap, ◌∙◌, arith}
+use Rattle.std.proofs.Common.{◌≡◌, ℕ, zero, suc, ◌+◌, ◌-◌, ◌≤◌, true, List, [], ◌∷◌, ◌++◌, map, length, take, drop, sym, refl, ap, ◌∙◌, arith}
 use Rattle.std.specs.List.{list_all, AllByRecursion}
-use Rattle.std.proofs.lemmas.List.{length-take-le, length-drop, length-take, take-append-drop, take-append-le, drop-append-le, nil_from_length, length-map, take-map, drop-map}
-use Rattle.std.proofs.lemmas.Bool.{and_parts, and_from, eqb-true, leb-true}
+use Rattle.std.proofs.lemmas.List.{length-take-le, length-drop, take-append-drop, take-append-le, drop-append-le, nil_from_length, take-map, drop-map}
+use Rattle.std.proofs.lemmas.Bool.{and_parts, eqb-true, leb-true}
 use Rattle.book.specs.declared.rows.LineRow.{LineRow}
 use Rattle.book.specs.declared.rows.KeywordRow.{KeywordRow}
-use Rattle.book.specs.Book.{Line, Book, all_keywords, all_gaps}
+use Rattle.book.specs.Book.{all_keywords, all_gaps}
 use Rattle.book.specs.Cutting.{total}
-use Rattle.book.specs.Layout.{laid, lines_laid, keywords_laid, opens, opened, line_ok}
+use Rattle.book.specs.Layout.{lines_laid, keywords_laid, opens, opened, line_ok}
 use Rattle.book.specs.Rows.{line_rows_from, keyword_rows_from}
 use Rattle.book.specs.Rules.{number_ok, points_ok, lag_ok, count_ok, length_ok, gap_ok}
 use Rattle.book.specs.Proper.{ProperLine}

@@ -1,19 +1,18 @@
 -- A line that goes behind the others.
-use Rattle.std.proofs.Common.{◌≡◌, ℕ, zero, suc, ◌+◌, ◌<◌, ◌≤◌, Bool, true, ◌&&◌, leb, List, [], ◌∷◌, ◌++◌, map, length, take, drop, set, sym, refl, ap, ◌∙◌, arith}
+use Rattle.std.proofs.Common.{◌≡◌, ℕ, ◌+◌, ◌<◌, ◌≤◌, true, ◌&&◌, List, [], ◌∷◌, ◌++◌, map, length, take, drop, set, sym, refl, ap, ◌∙◌, arith}
 use lib.Seq.{take-paste, length-paste}
 use Rattle.std.specs.List.{list_all}
-use Rattle.std.proofs.lemmas.List.{length-take-le, length-map, length_push, map-append, take_all, take_more_set, take-append-le, drop-append-le, nil_from_length}
-use Rattle.std.proofs.lemmas.Bool.{and_parts, and_from, eq-eqb, leb-true}
+use Rattle.std.proofs.lemmas.List.{length-map, length_push, map-append, take_all, take_more_set, take-append-le, drop-append-le, nil_from_length}
+use Rattle.std.proofs.lemmas.Bool.{and_parts, and_from, eq-eqb}
 use Rattle.book.specs.declared.rows.LineRow.{LineRow}
 use Rattle.book.specs.declared.rows.KeywordRow.{KeywordRow}
 use Rattle.book.specs.declared.ledgers.Ledger.{Ledger}
 use Rattle.book.specs.Admitted.{Admitted, lines_in, keywords_in, line_row}
-use Rattle.book.specs.Book.{Book}
 use Rattle.book.specs.Cutting.{total, cut, filled}
 use Rattle.book.specs.Entering.{Request, line_of}
 use Rattle.book.specs.Layout.{lines_laid, keywords_laid, opens, opened, distinct, line_ok, keyword_ok}
 use Rattle.book.specs.Rows.{keyword_rows_from}
-use Rattle.book.specs.Rules.{number_ok, points_ok, lag_ok, count_ok, gap_ok, within}
+use Rattle.book.specs.Rules.{number_ok, within}
 use Rattle.book.specs.Stored.{held, lines_from}
 use Rattle.book.proofs.Cuts.{laid-append, length_cut, cut-append, cut_same, take-filled, cut-filled}
 use Rattle.book.proofs.Few.{few, distinct_push}

@@ -4,7 +4,7 @@ use Rattle.book.specs.declared.rows.LineRow.{LineRow}
 use Rattle.book.specs.declared.ledgers.Ledger.{Ledger}
 use Rattle.book.specs.declared.open.OpenBook.{OpenBook}
 use Rattle.book.specs.declared.sealed.SealedBook.{SealedBook}
-use Rattle.book.specs.Book.{Line, Book}
+use Rattle.book.specs.Book.{Book}
 use Rattle.book.specs.Cutting.{cut}
 
 -- lines made of the keywords one after another, with the gap before each

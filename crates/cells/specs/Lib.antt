@@ -4,4 +4,4 @@ pub mod When
 pub mod Letters
 pub mod Bands
 pub mod Whens
-pub mod BandKindLemmas
+pub mod Scaled

@@ -1,6 +1,6 @@
 -- What `when` makes.
-use Rattle.std.specs.Prelude.{◌≡◌, Bool, true, false, Some, None, Option, refl}
-use Rattle.std.proofs.Common.{sym, ap, ◌∙◌}
+use Rattle.std.specs.Prelude.{◌≡◌, Bool, true, false, Some, None, refl}
+use Rattle.std.proofs.Common.{sym, ap}
 use Rattle.std.proofs.Math.Bool.{Bool-set}
 use Rattle.cells.specs.When.{when}
 

@@ -1,5 +1,5 @@
 -- Which calls are accepted, and the history after a call.
-use Rattle.std.specs.Prelude.{ℕ, Bool, true, false, not, ◌&&◌, List, [], ◌∷◌, is_ok, Result, nat_lt}
+use Rattle.std.specs.Prelude.{Bool, true, false, not, List, [], ◌∷◌, is_ok, Result, nat_lt}
 use Rattle.refusals.specs.declared.Refusal.{Refusal}
 use Rattle.refusals.specs.declared.Refusal.TheVariants.{NoSymbol, TicksSpent, NoSuchLine, AlreadyArmed, AlreadyResting}
 use Rattle.book.specs.Book.{Book, has_number}

@@ -1,6 +1,6 @@
 -- Points.
-use Rattle.std.specs.Prelude.{ℕ, ◌-◌, Bool, true, false, List, [], ◌∷◌, ℤ, pos, ◌+ℤ◌}
-use Rattle.book.specs.Book.{Line, Book}
+use Rattle.std.specs.Prelude.{ℕ, ◌-◌, Bool, true, false, [], ◌∷◌, ℤ, pos, ◌+ℤ◌}
+use Rattle.book.specs.Book.{Book}
 use Rattle.history.specs.Calls.{History}
 use Rattle.history.specs.Reports.{reported}
 

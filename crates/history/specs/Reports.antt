@@ -2,7 +2,7 @@
 use Rattle.std.specs.Prelude.{ℕ, ◌+◌, ◌-◌, Bool, true, false, ◌&&◌, List, [], ◌∷◌, reverse, ◌==◌, nat_lt}
 use Rattle.book.specs.Book.{Line, Book}
 use Rattle.occurrences.specs.Occurring.{span, occurs}
-use Rattle.history.specs.Calls.{Call, feed, arm, rest, clear, History, samples, count}
+use Rattle.history.specs.Calls.{feed, arm, rest, clear, History, samples, count}
 use Rattle.history.specs.Standing.{is_armed, mark}
 
 module _ {C S : Type 0} (hears : C → S → Bool) where

@@ -1,6 +1,6 @@
 -- Standing and mark of a line, by the accepted calls.
 use Rattle.std.specs.Prelude.{ℕ, Bool, true, false, cond, [], ◌∷◌, ◌==◌}
-use Rattle.history.specs.Calls.{Call, feed, arm, rest, clear, History, count}
+use Rattle.history.specs.Calls.{feed, arm, rest, clear, History, count}
 
 -- whether the line of a number is armed: it is from the making or a clear on, until a rest, and from an arm on again
 abbrev pub is_armed : {S : Type 0} → History S → ℕ → Bool

@@ -1,12 +1,12 @@
 -- What the distances in use show.
-use Rattle.std.proofs.Common.{◌≡◌, ℕ, zero, suc, ◌+◌, ◌-◌, ◌%◌, ◌<◌, ◌≤◌, Bool, true, false, not, ◌&&◌, ◌||◌, eqb, ltb, List, [], ◌∷◌, length, get_or, drop, sym, refl, ap, ◌∙◌, arith}
+use Rattle.std.proofs.Common.{◌≡◌, ℕ, suc, ◌+◌, ◌-◌, ◌%◌, ◌<◌, Bool, false, not, ◌&&◌, ltb, List, ◌∷◌, length, get_or, drop, sym, ap, ◌∙◌, arith}
 use Rattle.std.proofs.lemmas.Bool.{and_parts, and_from, lt-ltb, eqb-true, eq-eqb, not_from_false}
 use Rattle.book.specs.declared.rows.LineRow.{LineRow}
 use Rattle.book.specs.declared.rows.KeywordRow.{KeywordRow}
 use Rattle.lookback.specs.declared.lookbacks.Lookback.{Lookback}
 use Rattle.lookback.specs.Linked.{mark_at, follows_at}
 use Rattle.lookback.specs.Prefixes.{opens, reach, prefix_ends}
-use Rattle.lookback.specs.Represented.{Represents, looked_back, some_below, slot}
+use Rattle.lookback.specs.Represented.{Represents, looked_back, slot}
 use Rattle.lookback.proofs.Reaches.{near, same_distance, some_is}
 
 module _ (l : Lookback) (lines : List LineRow) (keywords : List KeywordRow) (past : List (ℕ → Bool)) (r : Represents l lines keywords past) where

@@ -1,12 +1,10 @@
 -- A line where it stands in its book.
-use Rattle.std.proofs.Common.{◌≡◌, ℕ, zero, suc, ◌+◌, ◌-◌, ◌<◌, ◌≤◌, Bool, true, false, ◌&&◌, ◌||◌, eqb, leb, List, [], ◌∷◌, ◌++◌, map, reverse, length, get_or, take, drop, sym, refl, ap, ◌∙◌, ⊎_elim, append_assoc, arith}
+use Rattle.std.proofs.Common.{◌≡◌, ℕ, zero, suc, ◌+◌, ◌-◌, ◌<◌, ◌≤◌, Bool, false, ◌&&◌, ◌||◌, eqb, leb, List, [], ◌∷◌, ◌++◌, map, reverse, length, get_or, take, sym, refl, ap, ◌∙◌, append_assoc, arith}
 use mathlib.Core.List.{reverse-append}
-use Rattle.std.specs.List.{flat_map, list_all, AllByRecursion}
-use Rattle.std.proofs.lemmas.List.{length-append, get_or-append-add, get_or_append_left, get_or-map, length-map, map-append, take_more, take_all, reverse-reverse}
+use Rattle.std.specs.List.{flat_map, AllByRecursion}
+use Rattle.std.proofs.lemmas.List.{length-append, get_or-append-add, get_or_append_left, get_or-map, length-map, take_more, take_all, reverse-reverse}
 use Rattle.std.proofs.lemmas.Bool.{and_parts, leb-true, eq-eqb, ne_eqb, or_left, or_from}
-use Rattle.book.specs.declared.rows.LineRow.{LineRow}
-use Rattle.book.specs.declared.rows.KeywordRow.{KeywordRow}
-use Rattle.book.specs.Book.{Line, Book, all_keywords, all_gaps, among}
+use Rattle.book.specs.Book.{Line, Book, all_keywords, all_gaps}
 use Rattle.book.specs.Cutting.{total}
 use Rattle.book.specs.Proper.{ProperLine}
 use Rattle.book.specs.Rows.{line_rows, line_rows_from, keyword_rows, keyword_rows_from}
@@ -16,7 +14,7 @@ use Rattle.finders.specs.Latest.{admit_all}
 use Rattle.lookback.specs.Prefixes.{opens, reach, prefix_ends}
 use Rattle.occurrences.specs.Occurring.{laid_from, span, occurs}
 use Rattle.occurrences.specs.Spotting.{spotted_among, pasts}
-use Rattle.occurrences.proofs.Layings.{laid_back, laid_pairs, width, pairs, backwards, in_turn, width-reverse}
+use Rattle.occurrences.proofs.Layings.{laid_pairs, width, pairs, backwards, in_turn, width-reverse}
 use Rattle.occurrences.proofs.Prefixed.{Standing, upto, prefixes, good}
 
 none : ⊥ → {X : Type 0} → X

@@ -1,11 +1,9 @@
 -- Laid forwards from its start, or backwards from its end: the same occurrence.
-use Rattle.std.proofs.Common.{◌≡◌, ℕ, zero, suc, ◌+◌, ◌-◌, ◌<◌, ◌≤◌, Bool, true, false, ◌&&◌, ◌||◌, leb, ◌⊎◌, List, [], ◌∷◌, ◌++◌, map, reverse, length, get_or, drop, sym, refl, ap, ◌∙◌, inl, inr, ⊎_elim, arith}
+use Rattle.std.proofs.Common.{◌≡◌, ℕ, zero, suc, ◌+◌, ◌-◌, ◌<◌, ◌≤◌, Bool, true, false, ◌&&◌, leb, ◌⊎◌, List, [], ◌∷◌, ◌++◌, reverse, length, get_or, drop, sym, refl, ap, ◌∙◌, inl, inr, ⊎_elim, arith}
 use mathlib.Core.List.{reverse-append}
-use Rattle.std.proofs.lemmas.List.{drop_more, drop_all, length-append, length-reverse, get_or-reverse, reverse-reverse}
+use Rattle.std.proofs.lemmas.List.{drop_all, length-reverse, get_or-reverse, reverse-reverse}
 use Rattle.std.proofs.lemmas.Bool.{cases_lt, le-leb, lt-leb, and_left, and_right}
-use Rattle.book.specs.Cutting.{total}
 use Rattle.finders.specs.Latest.{admit_all}
-use Rattle.finders.specs.Runs.{passes}
 use Rattle.finders.proofs.Marks.{passes_at}
 use Rattle.occurrences.specs.Occurring.{admits_tick, keyword_at, laid_from}
 

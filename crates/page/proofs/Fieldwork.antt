@@ -1,5 +1,5 @@
 -- What is wrong with a field, case by case.
-use Rattle.std.proofs.Common.{◌≡◌, ℕ, ◌+◌, ◌*◌, ◌<◌, ◌≤◌, true, false, cond, List, [], ◌∷◌, ◌++◌, map, length, get_or, drop, Some, None, Ok, Err, Option, Result, unwrap_or, sym, refl, ap, ◌∙◌, subst, arith, MatchResult}
+use Rattle.std.proofs.Common.{◌≡◌, ℕ, ◌+◌, ◌*◌, ◌<◌, true, false, cond, List, [], ◌∷◌, ◌++◌, length, drop, Some, None, Ok, Err, Option, unwrap_or, sym, refl, ap, ◌∙◌, arith, MatchResult}
 use Rattle.std.proofs.lemmas.List.FromFn.{length-map-range_with_len, get_or-map-range_with_len, map-range_with_len_more}
 use Rattle.std.proofs.lemmas.List.{drop_all, at_drop_more, map-id, flat_map_more}
 use Rattle.std.specs.List.{range_with_len, flat_map}
@@ -11,7 +11,7 @@ use Rattle.page.specs.declared.faults.Flaw.{Flaw}
 use Rattle.page.specs.Bytes.{blanks}
 use Rattle.page.specs.Decimals.{decimal_in, points_in, whole_of}
 use Rattle.page.specs.Columns.{number_field, points_field, lag_field, gap_field, between_field, letter_field, keywords_in, is_row_length}
-use Rattle.page.specs.Flaws.{at_column, length_flaw, blank_flaw, decimal_flaw, letter_flaw, gap_flaw, keyword_flaw, keyword_flaws, first_of, row_flaw}
+use Rattle.page.specs.Flaws.{at_column, blank_flaw, decimal_flaw, letter_flaw, gap_flaw, keyword_flaw, keyword_flaws, first_of, row_flaw}
 use Rattle.page.specs.Drafts.{Sized}
 use Rattle.page.specs.Row.{gap_of, cells_of, lengths_up_to, gaps_up_to, cells_up_to}
 

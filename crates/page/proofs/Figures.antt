@@ -1,5 +1,5 @@
 -- Decimals written and read back.
-use Rattle.std.proofs.Common.{◌≡◌, ℕ, zero, suc, ◌+◌, ◌-◌, ◌*◌, ◌^◌, ◌<◌, ◌≤◌, Bool, true, false, cond, not, ◌&&◌, ◌||◌, eqb, ltb, List, [], ◌∷◌, ◌++◌, length, get_or, drop, replicate, ℤ, pos, negsuc, Some, None, decimal, sym, refl, ap, ◌∙◌, inl, inr, one-add, arith, rules}
+use Rattle.std.proofs.Common.{◌≡◌, ℕ, zero, suc, ◌+◌, ◌-◌, ◌^◌, ◌<◌, ◌≤◌, true, List, [], ◌∷◌, ◌++◌, length, get_or, drop, replicate, ℤ, pos, negsuc, Some, decimal, refl, ap, ◌∙◌, inl, inr, one-add, arith, rules}
 use lib.Signed.{mag}
 use Rattle.std.proofs.lemmas.Fmt.{digits_decimal, digits_value-decimal, decimal_digit, decimal_nonempty, first_decimal}
 use Rattle.std.proofs.lemmas.List.{drop_at, length-replicate, length-append}
@@ -8,7 +8,7 @@ use Rattle.std.proofs.lemmas.Bool.{cases_lt, cond-true, cond-false, ne_eqb}
 use Rattle.std.proofs.lemmas.Bool.Decides.{nat_tests}
 use Rattle.std.specs.Fmt.{signed_decimal}
 use Rattle.std.specs.List.{list_all}
-use Rattle.page.specs.Bytes.{is_blank, is_digit, blanks, behind_blanks}
+use Rattle.page.specs.Bytes.{is_digit, blanks, behind_blanks}
 use Rattle.page.specs.Decimals.{begins_well, is_whole, value_after, whole_of, below_zero, not_below, signed_of, decimal_in, points_in}
 use Rattle.page.specs.Writing.{right}
 

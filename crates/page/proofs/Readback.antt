@@ -1,13 +1,13 @@
 -- A line written as a row is read back.
-use Rattle.std.proofs.Common.{◌≡◌, ℕ, zero, suc, ◌+◌, ◌-◌, ◌*◌, ◌/◌, ◌^◌, ◌<◌, ◌≤◌, Bool, true, false, ◌&&◌, leb, List, [], ◌∷◌, ◌++◌, map, length, get_or, take, drop, replicate, ℤ, pos, negsuc, Some, None, decimal, Option, unwrap_or, sym, refl, ap, ◌∙◌, arith}
+use Rattle.std.proofs.Common.{◌≡◌, ℕ, zero, suc, ◌+◌, ◌-◌, ◌*◌, ◌/◌, ◌<◌, ◌≤◌, true, ◌&&◌, leb, List, [], ◌∷◌, ◌++◌, map, length, get_or, take, drop, replicate, ℤ, pos, negsuc, Some, None, decimal, Option, unwrap_or, sym, refl, ap, ◌∙◌, arith}
 use native.Mathlib.Nat.{mul-div_cancel_left}
 use lib.Signed.{mag}
 use Rattle.std.proofs.lemmas.List.FromFn.{fill_by_all}
 use Rattle.std.proofs.lemmas.Fmt.{length-decimal-le, length_signed_le}
 use Rattle.std.proofs.lemmas.List.{length-append, length-map, length-replicate, take_at, drop_at, drop-drop, get_or-map, get_or-replicate}
-use Rattle.std.proofs.lemmas.Bool.{and_parts, and_from, leb-true, le-leb, eq-eqb, cond-true}
+use Rattle.std.proofs.lemmas.Bool.{and_parts, and_from, leb-true, le-leb, eq-eqb}
 use Rattle.std.specs.List.{range_with_len, flat_map, list_all}
-use Rattle.std.specs.Option.{option_or, option_map}
+use Rattle.std.specs.Option.{option_map}
 use Rattle.std.specs.Fmt.{signed_decimal}
 use Rattle.refusals.specs.declared.Refusal.TheVariants.{BadKeyword}
 use Rattle.cells.specs.declared.letters.LetterCell.{LetterCell}
@@ -21,12 +21,12 @@ use Rattle.page.specs.declared.faults.Flaw.{Flaw}
 use Rattle.page.specs.Decimals.{decimal_in, points_in, whole_of}
 use Rattle.page.specs.Letters.{letters_of}
 use Rattle.page.specs.Columns.{from_column, number_field, points_field, lag_field, gap_field, between_field, letter_field, keywords_in, is_row_length}
-use Rattle.page.specs.Flaws.{at_column, decimal_flaw, blank_flaw, letter_flaw, gap_flaw, keyword_flaw, keyword_flaws, first_of, row_flaw}
+use Rattle.page.specs.Flaws.{at_column, decimal_flaw, blank_flaw, letter_flaw, gap_flaw, keyword_flaw, first_of, row_flaw}
 use Rattle.page.specs.Row.{gap_of, cells_of, row_request}
 use Rattle.page.specs.Writing.{right, left, letters_in, blocks_of, gap_texts, row_of, ReadsBack, line_request}
 use Rattle.page.proofs.Figures.{decimal_back, points_back, length-right}
 use Rattle.page.proofs.Spelt.{letters_left, good_letters}
-use Rattle.page.proofs.Blocks.{short, proper, proper_few, proper_some, length_blocks, proper_at, gap_at, blank_at, letters_at}
+use Rattle.page.proofs.Blocks.{short, proper, proper_few, proper_some, length_blocks, gap_at, blank_at, letters_at}
 use Rattle.page.proofs.Fieldwork.{gap_first, gap_later, flawed_letters, sized_flaw, third_is}
 
 pub small_points : (p : ℤ) → points_ok p ≡ true → mag p ≤ 999

@@ -1,7 +1,6 @@
 -- Letters that stand first in a field, cell by cell.
-use Rattle.std.proofs.Common.{◌≡◌, ℕ, suc, ◌+◌, ◌-◌, ◌<◌, ◌≤◌, List, [], ◌∷◌, ◌++◌, length, get_or, take, drop, set, Ok, Err, sym, refl, ap, ◌∙◌, arith}
+use Rattle.std.proofs.Common.{◌≡◌, ℕ, suc, ◌+◌, ◌-◌, ◌<◌, ◌≤◌, List, [], ◌∷◌, ◌++◌, length, get_or, take, drop, set, sym, ap, ◌∙◌, arith}
 use Rattle.std.proofs.lemmas.List.{at_drop_more, at_drop_all, get_or-drop, drop-drop, take_all, take_more, take_more_set, length-drop, append_assoc}
-use Rattle.refusals.specs.declared.Refusal.{Refusal}
 use Rattle.cells.specs.declared.letters.LetterCell.{LetterCell}
 use Rattle.cells.specs.Letters.{letter_cell_of}
 use Rattle.page.specs.Letters.{letters_of, cell_before}

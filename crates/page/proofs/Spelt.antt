@@ -1,5 +1,5 @@
 -- Letters written and read back.
-use Rattle.std.proofs.Common.{◌≡◌, ℕ, zero, suc, ◌+◌, ◌-◌, ◌<◌, ◌≤◌, List, [], ◌∷◌, ◌++◌, map, length, drop, replicate, Some, None, Ok, Err, sym, refl, ap, ◌∙◌, arith}
+use Rattle.std.proofs.Common.{◌≡◌, ℕ, zero, suc, ◌+◌, ◌-◌, ◌≤◌, List, [], ◌∷◌, ◌++◌, length, drop, replicate, None, Ok, sym, refl, ap, ◌∙◌, arith}
 use Rattle.std.proofs.lemmas.List.{drop_at, length-replicate, length-map, length-append, append-nil}
 use Rattle.std.proofs.lemmas.Bool.Decides.{nat_tests}
 use Rattle.std.specs.Option.{ok_or, option_map}
@@ -9,7 +9,7 @@ use Rattle.cells.specs.Alphabet.{is_letter}
 use Rattle.cells.specs.Letters.{letter_cell_of}
 use Rattle.cells.specs.Whens.{when_passes}
 use Rattle.page.specs.Bytes.{blanks}
-use Rattle.page.specs.Letters.{letters_of, letters_end, bad_letter, cell_before}
+use Rattle.page.specs.Letters.{letters_of, bad_letter, cell_before}
 use Rattle.page.specs.Writing.{left, letters_in}
 use Rattle.page.proofs.Figures.{blanks_before}
 

@@ -1,5 +1,5 @@
 -- Lines written as a page are entered as lines.
-use Rattle.std.proofs.Common.{◌≡◌, ℕ, zero, suc, ◌+◌, ◌-◌, ◌^◌, ◌<◌, ◌≤◌, Bool, true, false, cond, not, ◌&&◌, eqb, leb, List, [], ◌∷◌, ◌++◌, map, length, replicate, ℤ, pos, negsuc, decimal, sym, refl, ap, ◌∙◌, arith}
+use Rattle.std.proofs.Common.{◌≡◌, ℕ, zero, suc, ◌+◌, ◌-◌, ◌^◌, ◌<◌, true, leb, List, [], ◌∷◌, ◌++◌, length, replicate, ℤ, pos, negsuc, decimal, refl, ap, ◌∙◌, arith}
 use lib.Signed.{mag}
 use Rattle.std.proofs.lemmas.Bool.{and_parts, and_from, cond-false, not-true, leb-true}
 use Rattle.std.proofs.lemmas.Bool.Decides.{nat_tests}
@@ -14,8 +14,7 @@ use Rattle.book.specs.Proper.{ProperLine}
 use Rattle.book.specs.Rules.{gap_ok}
 use Rattle.book.proofs.Passes.{pass_append, pass_weaker, pass_map}
 use Rattle.page.specs.Bytes.{is_digit}
-use Rattle.page.specs.Flaws.{row_flaw}
-use Rattle.page.specs.Page.{Outcome, after_row, enter_rows}
+use Rattle.page.specs.Page.{after_row, enter_rows}
 use Rattle.page.specs.Row.{row_request}
 use Rattle.page.specs.Rows.{rows_of, byte_before}
 use Rattle.page.specs.Told.{book_flaw, entry_flaw}

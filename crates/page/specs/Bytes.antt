@@ -1,5 +1,5 @@
 -- The bytes of a page.
-use Rattle.std.specs.Prelude.{ℕ, ◌+◌, Bool, ◌&&◌, List, drop, ◌==◌, nat_le}
+use Rattle.std.specs.Prelude.{ℕ, Bool, ◌&&◌, List, drop, ◌==◌, nat_le}
 use Rattle.std.specs.List.{prefix_len}
 
 -- a blank is byte 32

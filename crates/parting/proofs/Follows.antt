@@ -1,5 +1,5 @@
 -- The history of a part follows that of the whole, for the part's own lines.
-use Rattle.std.proofs.Common.{◌≡◌, ℕ, ◌+◌, ◌-◌, Bool, true, false, cond, not, ◌&&◌, eqb, ltb, List, [], ◌∷◌, reverse, is_ok, Ok, Err, sym, refl, ap, ◌∙◌, subst, ⊎_elim}
+use Rattle.std.proofs.Common.{◌≡◌, ℕ, ◌+◌, ◌-◌, Bool, true, false, cond, not, ◌&&◌, eqb, ltb, [], ◌∷◌, reverse, is_ok, Ok, Err, sym, refl, ap, ◌∙◌, subst, ⊎_elim}
 use Rattle.std.proofs.lemmas.Bool.{cases_Bool, ne_eqb, both_ways}
 use Rattle.refusals.specs.declared.Refusal.TheVariants.{NoSymbol, TicksSpent, NoSuchLine, AlreadyArmed, AlreadyResting}
 use Rattle.book.specs.Book.{Line, Book, has_number}

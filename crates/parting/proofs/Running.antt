@@ -6,10 +6,9 @@ use Rattle.book.specs.Book.{Book}
 use Rattle.history.specs.Calls.{History}
 use Rattle.bench.specs.declared.benches.Bench.{Bench}
 use Rattle.bench.specs.Keeping.{takes}
-use Rattle.bench.specs.Lived.{Represents}
 use Rattle.parting.specs.declared.commands.Command.{Command}
 use Rattle.parting.specs.declared.commands.Answer.{Answer}
-use Rattle.parting.specs.Replies.{Reply, said, reply, then, replies, then_all}
+use Rattle.parting.specs.Replies.{said, reply, then, replies, then_all}
 use Rattle.parting.specs.Runs.{Answered, Ran}
 
 module _ {C S : Type 0} (hears : C → S → Bool) (takes : S → Bool) (b : Book C) where

@@ -6,7 +6,7 @@ use Rattle.refusals.specs.declared.Refusal.TheVariants.{NoSuchLine}
 use Rattle.book.specs.Book.{Line, Book, among, has_number}
 use Rattle.book.specs.Layout.{distinct}
 use Rattle.history.specs.Answers.{verdict}
-use Rattle.history.specs.Calls.{feed, arm, rest, clear, History, count}
+use Rattle.history.specs.Calls.{feed, History, count}
 use Rattle.history.specs.Points.{points}
 use Rattle.history.specs.Reports.{reported, numbers_reported}
 use Rattle.history.specs.Standing.{is_armed}
@@ -18,7 +18,7 @@ use Rattle.bench.proofs.Numbered.{has_here, none_absent}
 use Rattle.parting.specs.declared.commands.Command.{Command}
 use Rattle.parting.specs.declared.commands.Command.TheVariants.{Feed, Arm, Rest, Clear, Standing}
 use Rattle.parting.specs.Parted.{Parted, TickShared, FeedShared, OwnPart, Shared, AllShared}
-use Rattle.parting.specs.Replies.{ticked, done, standing, Reply, fed, turned, reply, then, replies}
+use Rattle.parting.specs.Replies.{standing, Reply, fed, turned, reply, then, replies}
 use Rattle.parting.proofs.Follows.{Follows, follows_none, feed_both, same_feed, same_arm, same_rest, no_arm, no_rest, follows_then}
 use Rattle.parting.proofs.Sums.{any, sumℤ, any_parted, sum_parted, has_any, apart}
 

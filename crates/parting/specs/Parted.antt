@@ -1,5 +1,5 @@
 -- A book that is parted, and how its parts share out what the whole replies.
-use Rattle.std.specs.Prelude.{◌≡◌, ℕ, Bool, true, false, ◌&&◌, ◌||◌, List, [], ◌∷◌, ◌++◌, ◌+ℤ◌, is_some, is_ok, None, Ok, Err, Option}
+use Rattle.std.specs.Prelude.{◌≡◌, ℕ, true, false, ◌&&◌, ◌||◌, List, [], ◌∷◌, ◌++◌, ◌+ℤ◌, is_some, is_ok, None, Ok, Err, Option}
 use Rattle.std.specs.List.Sorted.{IsPermutation}
 use Rattle.refusals.specs.declared.Refusal.{Refusal}
 use Rattle.refusals.specs.declared.Refusal.TheVariants.{NoSuchLine}

@@ -1,5 +1,5 @@
 -- What a bench replies to commands, by its history.
-use Rattle.std.specs.Prelude.{ℕ, Bool, List, [], ◌∷◌, Ok, Err, Option, Result}
+use Rattle.std.specs.Prelude.{Bool, List, [], ◌∷◌, Ok, Err, Option, Result}
 use Rattle.refusals.specs.declared.Refusal.{Refusal}
 use Rattle.columns.specs.Numbers.{member}
 use Rattle.book.specs.Book.{Book}

@@ -1,5 +1,5 @@
 -- What arming and resting do to a standing.
-use Rattle.std.specs.Prelude.{ℕ, ◌-◌, Bool, true, false, cond, ◌&&◌, List, map, Ok, Err, Result, slice_index_or, slice_set}
+use Rattle.std.specs.Prelude.{ℕ, ◌-◌, cond, ◌&&◌, List, map, Ok, Err, Result, slice_index_or, slice_set}
 use Rattle.refusals.specs.declared.Refusal.{Refusal}
 use Rattle.refusals.specs.declared.Refusal.TheVariants.{NoSuchLine, AlreadyArmed, AlreadyResting}
 use Rattle.book.specs.declared.rows.LineRow.{LineRow}

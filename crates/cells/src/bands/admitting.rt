@@ -5,7 +5,7 @@ ghost use Rattle.cells.specs.Bands.{reading_of, band_admits, band_hears, inside}
 ghost use Rattle.cells.specs.Scale.{on_scale};
 ghost use Rattle.cells.specs.Whens.{when_made, when_none};
 ghost use Rattle.std.proofs.lemmas.Bool.{and_parts, and_from, both_ways, cases_Bool};
-ghost use Rattle.cells.specs.BandKindLemmas.{scaled};
+ghost use Rattle.cells.specs.Scaled.{scaled};
 
 use crate::bands::{BandCell, Gauges, Reading};
 use crate::kinds::Cell;

@@ -1,5 +1,5 @@
 // How a row finder is made, and that it is a finder.
-ghost use Rattle.std.specs.Prelude.{◌≡◌, ℕ, ◌-◌, ◌<◌, ◌≤◌, Bool, false, ◌&&◌, ◌||◌, map, length, get_or, nat_lt, slice_index_or};
+ghost use Rattle.std.specs.Prelude.{◌≡◌, ℕ, ◌-◌, ◌<◌, ◌≤◌, Bool, false, ◌&&◌, ◌||◌, map, length, nat_lt, slice_index_or};
 ghost use Rattle.std.specs.List.{range_with_len};
 ghost use Rattle.book.specs.Stored.{sealed_book};
 ghost use Rattle.finders.specs.Runs.{begins, taken, ends};
@@ -56,7 +56,7 @@ fn runs_after<C: Cell>(
 ) -> [bool; PLACES]
     requires { firsts.now ≡ map (begins (sealed_book book.now)) (range_with_len 0 1023) }
     ensures long { length result ≡ 1023 }
-    ensures runs { (p : ℕ) → slice_index_or result p false ≡ taken (sealed_book book.now) (λ c. C.Cell.admits c symbol) (λ q. get_or runs.now q false) p }
+    ensures runs { (p : ℕ) → slice_index_or result p false ≡ taken (sealed_book book.now) (λ c. C.Cell.admits c symbol) (λ q. slice_index_or runs.now q false) p }
 {
     let cells = book.cells();
     let mut after = [false; PLACES];
@@ -69,7 +69,7 @@ fn runs_after<C: Cell>(
 
 // Whether a mark stands at the last place of a keyword.
 fn marks_last<C: Cell>(book: &SealedBook<'_, C>, marks: &[bool; PLACES], keyword: usize) -> bool
-    ensures { result ≡ ends (sealed_book book.now) (λ p. get_or marks.now p false) keyword }
+    ensures { result ≡ ends (sealed_book book.now) (λ p. slice_index_or marks.now p false) keyword }
 {
     let keywords = book.keywords();
     if keyword >= keywords.len() {

@@ -1,4 +1,4 @@
-use Rattle.std.proofs.Common.{◌≡◌, ◌+◌, eqb, get_or, drop, sym, ⊎_elim, arith}
+use Rattle.std.proofs.Common.{◌≡◌, ◌+◌, get_or, drop, sym, ⊎_elim, arith}
 use Rattle.std.proofs.lemmas.List.{at_drop_more, at_drop_all}
 use Rattle.std.proofs.lemmas.Bool.{ne_eqb, eq-eqb, cases_eq}
 use Rattle.book.specs.Cutting.{total}

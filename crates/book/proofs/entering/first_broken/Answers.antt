@@ -1,4 +1,4 @@
-use Rattle.std.proofs.Common.{◌≡◌, ◌+◌, false, cond, get_or, drop, Err, sym, ap, ◌∙◌}
+use Rattle.std.proofs.Common.{◌+◌, false, cond, get_or, drop, Err, sym, ap, ◌∙◌}
 use Rattle.std.proofs.lemmas.List.{at_drop_more, at_drop_all}
 use Rattle.refusals.specs.declared.Refusal.TheVariants.{NumberOutOfRange}
 use Rattle.book.specs.Entering.{judged}

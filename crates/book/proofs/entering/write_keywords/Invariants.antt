@@ -1,4 +1,4 @@
-use Rattle.std.proofs.Common.{◌≡◌, ◌+◌, ◌∷◌, length, take}
+use Rattle.std.proofs.Common.{◌≡◌, ◌+◌, ◌∷◌, take}
 use lib.Seq.{paste}
 use Rattle.book.specs.Cutting.{total}
 use Rattle.book.specs.Rows.{keyword_rows_from}

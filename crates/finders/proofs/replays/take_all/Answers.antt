@@ -1,4 +1,4 @@
-use Rattle.std.proofs.Common.{◌≡◌, [], ◌∷◌, ◌++◌, take, sym, refl, ap, ◌∙◌}
+use Rattle.std.proofs.Common.{[], ◌∷◌, ◌++◌, take, sym, refl, ap, ◌∙◌}
 use Rattle.finders.specs.Latest.{run}
 use Rattle.finders.specs.Runs.{taken}
 use Rattle.std.proofs.lemmas.List.{take_more, take_all}

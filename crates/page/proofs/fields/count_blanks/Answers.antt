@@ -1,4 +1,4 @@
-use Rattle.std.proofs.Common.{◌≡◌, arith}
+use Rattle.std.proofs.Common.{arith}
 use Rattle.std.proofs.lemmas.Bool.Decides.{nat_tests}
 use Rattle.page.proofs.Steps.{blanks_step, blanks_end}
 use Rattle.page.proofs.fields.count_blanks.Goals as goal

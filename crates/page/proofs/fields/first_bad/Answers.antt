@@ -1,6 +1,6 @@
-use Rattle.std.proofs.Common.{◌≡◌, length, sym, refl, ap, ◌∙◌, arith, rules}
+use Rattle.std.proofs.Common.{arith, rules}
 use Rattle.std.proofs.lemmas.Bool.Decides.{nat_tests}
-use Rattle.page.specs.Letters.{letters_of, letters_end, bad_letter}
+use Rattle.page.specs.Letters.{bad_letter}
 use Rattle.page.proofs.Steps.{blanks_step, blanks_end}
 use Rattle.page.proofs.fields.first_bad.Goals as goal
 

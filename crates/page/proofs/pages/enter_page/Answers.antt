@@ -1,12 +1,10 @@
-use Rattle.std.proofs.Common.{◌≡◌, ℕ, ◌+◌, ◌-◌, ◌<◌, ◌≤◌, List, length, take, drop, Some, None, Err, sym, refl, ap, ◌∙◌, arith}
-use Rattle.cells.specs.declared.letters.LetterCell.{LetterCell}
+use Rattle.std.proofs.Common.{◌≡◌, ◌+◌, ◌-◌, length, take, drop, Err, sym, ap, ◌∙◌, arith}
 use Rattle.book.specs.Entering.{enter_answer, entered, cells_after}
 use Rattle.book.specs.Stored.{open_book}
 use Rattle.page.specs.Columns.{keywords_in}
 use Rattle.page.specs.Drafts.{draft_request}
-use Rattle.page.specs.Page.{Outcome, enter_rows, page_outcome}
+use Rattle.page.specs.Page.{Outcome, enter_rows}
 use Rattle.page.specs.Rows.{rows_of}
-use Rattle.page.specs.Told.{book_flaw}
 use Rattle.page.proofs.Turns.{rows_done, row_goes, row_own, row_told, read_line, refused_stays, stopped, next_rows, next_further}
 use Rattle.page.proofs.Readback.{reads_back}
 use Rattle.page.proofs.Whole.{enters_lines}

@@ -1,6 +1,5 @@
 use Rattle.std.proofs.Common.{◌≡◌, ◌+◌, ◌-◌, ◌≤◌, length, drop}
 use Rattle.book.specs.Stored.{open_book}
-use Rattle.page.specs.Columns.{keywords_in}
 use Rattle.page.specs.Drafts.{Drafted}
 use Rattle.page.specs.Page.{enter_rows, page_outcome}
 use Rattle.page.specs.Rows.{rows_of}

@@ -1,10 +1,7 @@
-use Rattle.std.proofs.Common.{◌≡◌, ℕ, ◌+◌, ◌*◌, Some, None, Result, sym, refl, ap, ◌∙◌, subst, MatchResult}
+use Rattle.std.proofs.Common.{◌+◌, ◌*◌, sym, ◌∙◌}
 use Rattle.std.proofs.lemmas.Result.{err_from_is_err_and}
-use Rattle.page.specs.declared.faults.Flaw.{Flaw}
 use Rattle.page.specs.Decimals.{decimal_in}
 use Rattle.page.specs.Columns.{gap_field}
-use Rattle.page.specs.Flaws.{gap_flaw}
-use Rattle.page.specs.Row.{gap_of}
 use Rattle.page.proofs.Fieldwork.{gap_first, gap_later, no_first_gap, decimal_cases}
 use Rattle.page.proofs.reading.gap_at.Goals as goal
 

@@ -1,6 +1,6 @@
-use Rattle.std.proofs.Common.{◌≡◌, List, [], take, sym, subst}
+use Rattle.std.proofs.Common.{List, [], take, sym, subst}
 use Rattle.bench.specs.Keeping.{takes}
-use Rattle.parting.specs.Logged.{of_whole, of_first, of_second}
+use Rattle.parting.specs.Logged.{of_first, of_second}
 use Rattle.parting.specs.Parted.{AllShared}
 use Rattle.parting.specs.Replies.{Reply, replies}
 use Rattle.parting.proofs.Shares.{parting}

@@ -1,4 +1,4 @@
-use Rattle.std.proofs.Common.{◌≡◌, ◌<◌, map, length, take, drop, sym, refl, ap, ◌∙◌, subst, arith}
+use Rattle.std.proofs.Common.{◌≡◌, ◌<◌, map, length, take, drop, refl, subst, arith}
 use Rattle.parting.specs.Runs.{Ran}
 use Rattle.parting.specs.declared.commands.Trio.{Trio}
 use Rattle.parting.proofs.Running.{ran_none, ran_step, beyond}

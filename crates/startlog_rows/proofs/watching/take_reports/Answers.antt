@@ -1,4 +1,4 @@
-use Rattle.std.proofs.Common.{◌≡◌, ℕ, ◌<◌, List, [], ◌∷◌, length, Some, None, sym, ap, subst, arith}
+use Rattle.std.proofs.Common.{◌≡◌, ℕ, ◌<◌, List, [], ◌∷◌, length, Some, ap, arith}
 use Rattle.queue.specs.Answers.{first, rest}
 use Rattle.tray.specs.Waiting.{reports}
 use Rattle.startlog_rows.proofs.watching.take_reports.Goals as goal

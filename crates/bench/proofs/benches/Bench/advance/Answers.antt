@@ -1,5 +1,5 @@
-use Rattle.std.proofs.Common.{◌≡◌, ◌<◌, true, ◌∷◌, is_some, Ok, sym, ap, ◌∙◌, subst, arith}
-use Rattle.history.specs.Calls.{History, feed, samples, count}
+use Rattle.std.proofs.Common.{◌≡◌, ◌<◌, true, is_some, Ok, sym, ap, ◌∙◌, subst, arith}
+use Rattle.history.specs.Calls.{samples, count}
 use Rattle.bench.specs.Keeping.{takes}
 use Rattle.bench.specs.Lived.{Lives}
 use Rattle.bench.proofs.Feeds.{tells, lives_on, fed_answer, fed_after}

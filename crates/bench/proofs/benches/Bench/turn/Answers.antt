@@ -1,8 +1,6 @@
-use Rattle.std.proofs.Common.{◌≡◌, Bool, true, false, cond, eqb, ◌∷◌, is_ok, sym, refl, ap, ◌∙◌}
-use Rattle.standings.specs.declared.turns.Turn.{Turn}
+use Rattle.std.proofs.Common.{cond, eqb, ap, ◌∙◌}
 use Rattle.standings.specs.Turning.{answer, turned, placed}
-use Rattle.history.specs.Answers.{verdict}
-use Rattle.bench.specs.Keeping.{takes, turn_of}
+use Rattle.bench.specs.Keeping.{takes}
 use Rattle.bench.proofs.Kept.{turn_kept}
 use Rattle.bench.proofs.Turns.{placed_turned, answers, stands_after}
 use Rattle.bench.proofs.benches.Bench.turn.Goals as goal

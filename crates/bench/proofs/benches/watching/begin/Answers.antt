@@ -1,7 +1,7 @@
-use Rattle.std.proofs.Common.{◌≡◌, cond, ◌&&◌, List, [], map, sym, refl, ap, ◌∙◌, subst}
+use Rattle.std.proofs.Common.{◌≡◌, cond, ◌&&◌, List, map, sym, refl, ap, ◌∙◌, subst}
 use Rattle.book.specs.declared.rows.LineRow.{LineRow}
 use Rattle.book.specs.declared.rows.KeywordRow.{KeywordRow}
-use Rattle.book.specs.Book.{Book, among, has_number}
+use Rattle.book.specs.Book.{Book, among}
 use Rattle.book.specs.Rows.{line_rows, keyword_rows}
 use Rattle.book.specs.Rules.{within}
 use Rattle.standings.specs.declared.turns.Standing.TheVariants.{Absent, Armed}

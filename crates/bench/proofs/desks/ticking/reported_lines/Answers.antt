@@ -1,8 +1,8 @@
-use Rattle.std.proofs.Common.{◌≡◌, ℕ, ◌+◌, Bool, true, false, ◌&&◌, ◌||◌, eqb, List, get_or, drop, pos, sym, refl, ap, ◌∙◌}
+use Rattle.std.proofs.Common.{◌≡◌, ◌+◌, Bool, true, false, ◌&&◌, ◌||◌, eqb, List, get_or, drop, pos, sym, refl, ap, ◌∙◌}
 use Rattle.std.proofs.lemmas.List.{at_drop_more, at_drop_all}
 use Rattle.columns.specs.Numbers.{member, is_number}
 use Rattle.bench.specs.declared.lines.Watched.{Watched}
-use Rattle.bench.specs.Firing.{fires, any_fires}
+use Rattle.bench.specs.Firing.{any_fires}
 use Rattle.bench.proofs.desks.ticking.reported_lines.Goals as goal
 use Rattle.bench.proofs.desks.ticking.reported_lines.Goals.{then-is_reported, else-is_reported}
 

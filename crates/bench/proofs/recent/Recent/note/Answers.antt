@@ -1,4 +1,4 @@
-use Rattle.std.proofs.Common.{◌≡◌, ◌%◌, ◌<◌, ◌≢◌, length, ap, arith}
+use Rattle.std.proofs.Common.{◌≡◌, ◌%◌, length, ap, arith}
 use Rattle.std.proofs.lemmas.List.{get_or-set_same, get_or-set_other}
 use Rattle.columns.specs.Numbers.{member}
 use Rattle.bench.specs.Noted.{noted, nobody}

@@ -1,4 +1,4 @@
-use Rattle.std.proofs.Common.{◌≡◌, ◌+◌, not, [], ◌∷◌, length, sym, ap, ◌∙◌}
+use Rattle.std.proofs.Common.{◌+◌, not, [], ◌∷◌, length, sym, ap, ◌∙◌}
 use Rattle.refusals.specs.declared.Refusal.TheVariants.{NumberOutOfRange, NumberTaken, PointsOutOfRange, LagTooLong, KeywordCount, KeywordLength, GapTooLong, BookFull}
 use Rattle.book.specs.Book.{all_keywords}
 use Rattle.book.specs.Entering.{request, judged, room_ok}

@@ -1,4 +1,4 @@
-use Rattle.std.proofs.Common.{◌≡◌, ◌+◌, [], ◌∷◌, ◌++◌, length, sym, ap, ◌∙◌, subst, arith}
+use Rattle.std.proofs.Common.{◌+◌, [], ◌∷◌, ◌++◌, length, sym, ap, ◌∙◌, subst, arith}
 use lib.Seq.{length-paste}
 use Rattle.book.specs.Admitted.{Admitted, lines_in, keywords_in, line_row}
 use Rattle.book.specs.Entering.{request}

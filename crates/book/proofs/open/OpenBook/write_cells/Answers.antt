@@ -1,4 +1,4 @@
-use Rattle.std.proofs.Common.{◌≡◌, ◌+◌, ◌<◌, ◌≤◌, length, sym, refl, ap, ◌∙◌, arith}
+use Rattle.std.proofs.Common.{◌+◌, ◌<◌, ◌≤◌, length, refl, ◌∙◌, arith}
 use lib.Seq.{paste-zero}
 use Rattle.std.proofs.lemmas.List.{length-set}
 use Rattle.book.proofs.Copies.{copied_more}

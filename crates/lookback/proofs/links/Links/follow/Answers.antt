@@ -1,4 +1,4 @@
-use Rattle.std.proofs.Common.{◌≡◌, ℕ, suc, ◌+◌, ◌<◌, ◌≤◌, cond, sym, refl, ap, ◌∙◌, subst, add-one, arith}
+use Rattle.std.proofs.Common.{◌≡◌, cond, sym, ap, ◌∙◌, add-one, arith}
 use Rattle.lookback.specs.Prefixes.{opens, reach}
 use Rattle.lookback.proofs.Grows.{followed_more, listed_more, proper_more, bit, at_most_one}
 use Rattle.lookback.proofs.links.Links.follow.Goals as goal

@@ -1,4 +1,4 @@
-use Rattle.std.proofs.Common.{◌≡◌, ℕ, suc, ◌+◌, ◌-◌, ◌<◌, sym, ap, ◌∙◌, subst, arith}
+use Rattle.std.proofs.Common.{◌≡◌, suc, ◌+◌, ◌-◌, sym, ap, ◌∙◌, subst, arith}
 use Rattle.lookback.specs.Linked.{LinkedTo}
 use Rattle.lookback.specs.Prefixes.{opens, reach}
 use Rattle.lookback.proofs.Grows.{opened_more}

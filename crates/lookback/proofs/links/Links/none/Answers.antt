@@ -1,4 +1,4 @@
-use Rattle.std.proofs.Common.{◌≡◌, suc, sym, refl, ap, ◌∙◌, arith}
+use Rattle.std.proofs.Common.{suc, sym, refl, ap, ◌∙◌, arith}
 use Rattle.std.proofs.lemmas.List.{get_or-replicate}
 use Rattle.std.proofs.lemmas.Bool.{and_left, le-ltb}
 use Rattle.columns.specs.Marks.{mark, blank}

@@ -1,10 +1,9 @@
-use Rattle.std.proofs.Common.{◌≡◌, ℕ, ◌<◌, Bool, true, false, ◌&&◌, ◌||◌, eqb, ltb, List, map, get_or, take, pos, sym, refl, ap, ◌∙◌, ⊎_elim, arith}
+use Rattle.std.proofs.Common.{◌≡◌, ℕ, ◌<◌, Bool, true, false, ◌&&◌, ◌||◌, eqb, ltb, map, get_or, take, pos, sym, ap, ◌∙◌, ⊎_elim, arith}
 use Rattle.std.proofs.lemmas.List.{map_more, take_all}
 use Rattle.std.proofs.lemmas.Bool.{cases_eq, eq-eqb, ne_eqb, lt-ltb, and_right}
 use Rattle.book.specs.declared.rows.LineRow.{LineRow}
 use Rattle.book.specs.Book.{among}
 use Rattle.book.proofs.Amongs.{among_push}
-use Rattle.columns.specs.Marks.{mark}
 use Rattle.lookback.specs.Prefixes.{opens}
 use Rattle.lookback.proofs.links.linking.first_keywords.Goals as goal
 

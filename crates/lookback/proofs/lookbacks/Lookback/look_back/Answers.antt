@@ -1,4 +1,4 @@
-use Rattle.std.proofs.Common.{◌≡◌, ℕ, ◌%◌, Bool, ◌&&◌, ◌||◌, get_or, sym, refl, ap, ◌∙◌, add-one}
+use Rattle.std.proofs.Common.{ℕ, ◌%◌, Bool, ◌&&◌, ◌||◌, get_or, sym, ap, ◌∙◌, add-one}
 use Rattle.columns.specs.Marks.{mark}
 use Rattle.lookback.specs.Linked.{mark_at}
 use Rattle.lookback.specs.Represented.{some_below, slot}

@@ -1,5 +1,5 @@
-use Rattle.std.proofs.Common.{◌≡◌, ℕ, Bool, List, ◌∷◌, ap, ◌∙◌}
-use Rattle.book.specs.Book.{Book, all_keywords}
+use Rattle.std.proofs.Common.{◌≡◌, Bool, List, ◌∷◌, ap, ◌∙◌}
+use Rattle.book.specs.Book.{Book}
 use Rattle.finders.specs.Runs.{taken, ends}
 use Rattle.finders.proofs.LatestRuns.{taken_newest}
 use Rattle.matching.specs.Seen.{Has}

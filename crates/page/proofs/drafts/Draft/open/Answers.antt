@@ -1,4 +1,4 @@
-use Rattle.std.proofs.Common.{◌≡◌, length, take, drop, Some, None, sym, refl, ap, ◌∙◌, rules}
+use Rattle.std.proofs.Common.{drop, Some, sym, refl, ap, ◌∙◌, rules}
 use Rattle.std.proofs.lemmas.Result.{err_from_is_err_and}
 use Rattle.std.specs.Option.{option_or}
 use Rattle.page.specs.Decimals.{decimal_in, points_in}

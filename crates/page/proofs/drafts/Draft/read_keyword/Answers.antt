@@ -6,7 +6,7 @@ use Rattle.refusals.specs.declared.Refusal.TheVariants.{BadKeyword}
 use Rattle.page.specs.declared.faults.Flaw.{Flaw}
 use Rattle.page.specs.Letters.{letters_of, bad_letter}
 use Rattle.page.specs.Columns.{keywords_in, letter_field}
-use Rattle.page.specs.Flaws.{at_column, gap_flaw, keyword_flaw, keyword_flaws, first_of, row_flaw}
+use Rattle.page.specs.Flaws.{at_column, keyword_flaw, keyword_flaws, first_of, row_flaw}
 use Rattle.page.specs.Drafts.{Drafted}
 use Rattle.page.specs.Row.{gap_of, lengths_up_to, gaps_up_to, cells_up_to}
 use Rattle.page.specs.declared.drafts.Draft.{Draft}

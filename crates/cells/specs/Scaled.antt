@@ -1,3 +1,4 @@
+-- What lies inside bounds lies on the scale.
 use Rattle.std.specs.Prelude.{◌≡◌, ℕ, true, nat_le}
 use Rattle.std.proofs.Common.{arith}
 use Rattle.std.proofs.lemmas.Bool.{and_parts, le-leb, leb-true}
