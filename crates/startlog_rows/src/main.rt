@@ -1,5 +1,5 @@
-// startlog: reads a page of lines and a trace of letters from standard input, and prints a row for each tick at which
-// lines are reported or points are due. At a refusal it prints the refusal's row and stops.
+// startlog_rows: reads a page of lines and a trace of letters from standard input, and prints a row for each tick at
+// which lines are reported or points are due. At a refusal it prints the refusal's row and stops.
 #![tactic(auto)]
 
 mod watching;

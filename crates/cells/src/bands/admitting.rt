@@ -30,7 +30,7 @@ impl Cell for BandCell {
         ⊎_elim
         (λ h. let both = and_parts (inside cell.rpm sample.rpm) _ h in
         absurd (both_ways _ off (and_from _ _ (scaled cell.rpm sample.rpm both.0) (scaled cell.oil sample.oil both.1))))
-        (λ no-hearing. no-hearing)
+        (λ no_hearing. no_hearing)
         (cases_Bool (band_hears cell sample)) };
 
     fn read(sample: Gauges) -> Option<Reading> {
