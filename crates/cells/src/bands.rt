@@ -6,14 +6,14 @@ pub mod admitting;
 pub mod making;
 
 /// A sample of the two gauges, as it arrives.
-#[derive(Clone, Copy)]
+#[derive(Clone, Copy, PartialEq, Eq, Debug)]
 pub struct Gauges {
     pub rpm: u16,
     pub oil: u16,
 }
 
 /// A reading: the symbol of a sample whose two numbers are on the scale.
-#[derive(Clone, Copy)]
+#[derive(Clone, Copy, PartialEq, Eq, Debug)]
 pub struct Reading {
     rpm: u16,
     oil: u16,
@@ -21,7 +21,7 @@ pub struct Reading {
 }
 
 /// A lowest and a highest value on the scale, the lowest not above the highest.
-#[derive(Clone, Copy)]
+#[derive(Clone, Copy, PartialEq, Eq, Debug)]
 pub struct Bounds {
     lowest: u16,
     highest: u16,
@@ -29,7 +29,7 @@ pub struct Bounds {
 }
 
 /// A band cell admits the readings inside both bounds, ends counted.
-#[derive(Clone, Copy)]
+#[derive(Clone, Copy, PartialEq, Eq, Debug)]
 pub struct BandCell {
     rpm: Bounds,
     oil: Bounds,

@@ -6,14 +6,14 @@ pub mod admitting;
 pub mod making;
 
 /// A letter, A to P: the symbol of one byte.
-#[derive(Clone, Copy)]
+#[derive(Clone, Copy, PartialEq, Eq, Debug)]
 pub struct Letter {
     byte: u8,
     ghost ok: { is_letter byte ≡ true },
 }
 
 /// A letter cell admits its own letter only.
-#[derive(Clone, Copy, Default)]
+#[derive(Clone, Copy, Default, PartialEq, Eq, Debug)]
 pub struct LetterCell {
     letter: Letter,
 }

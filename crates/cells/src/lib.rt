@@ -16,10 +16,8 @@ mod tests {
     // Whether a band of rpm 100 to 200 with any oil admits a sample.
     fn in_band(rpm: u16, oil: u16) -> Result<bool, Refusal> {
         let cell = BandCell::new(Bounds::new(100, 200)?, Bounds::new(0, 9999)?);
-        match BandCell::read(Gauges { rpm, oil }) {
-            Some(reading) => Ok(cell.admits(reading)),
-            None => Err(Refusal::NoSymbol),
-        }
+        let reading = BandCell::read(Gauges { rpm, oil }).ok_or(Refusal::NoSymbol)?;
+        Ok(cell.admits(reading))
     }
 
     #[test]

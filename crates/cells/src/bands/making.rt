@@ -50,7 +50,7 @@ impl Bounds {
     pub fn hold(self, number: u16) -> bool
         ensures { result ≡ inside self number }
     {
-        self.lowest <= number && number <= self.highest
+        (self.lowest..=self.highest).contains(&number)
     }
 }
 

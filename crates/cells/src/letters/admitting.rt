@@ -29,6 +29,6 @@ impl Cell for LetterCell {
     }
 
     fn admits(&self, symbol: Letter) -> bool {
-        self.letter.byte() == symbol.byte()
+        self.letter == symbol
     }
 }

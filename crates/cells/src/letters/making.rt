@@ -14,7 +14,7 @@ impl Letter {
     pub fn new(byte: u8) -> Option<Letter>
         ensures { result ≡ letter_of byte }
     {
-        if FIRST <= byte && byte <= LAST {
+        if (FIRST..=LAST).contains(&byte) {
             Some(Letter { byte })
         } else {
             None
@@ -51,10 +51,8 @@ impl LetterCell {
     pub fn new(byte: u8) -> Result<LetterCell, Refusal>
         ensures { result ≡ letter_cell_of byte }
     {
-        match Letter::new(byte) {
-            Some(letter) => Ok(LetterCell { letter }),
-            None => Err(Refusal::NoSymbol),
-        }
+        let letter = Letter::new(byte).ok_or(Refusal::NoSymbol)?;
+        Ok(LetterCell { letter })
     }
 
     pub fn letter(self) -> Letter
