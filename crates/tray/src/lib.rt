@@ -42,10 +42,7 @@ impl<'a> Tray<'a> {
         ensures memory { self.new.queue.slots.now ≡ put_slots self.old.queue report }
         ensures lender { self.new.queue.slots.ghost_name ≡ self.old.queue.slots.ghost_name }
     {
-        match self.queue.put(report) {
-            Ok(()) => Ok(()),
-            Err(Full) => Err(Refusal::TrayFull),
-        }
+        self.queue.put(report).map_err(|_: Full| Refusal::TrayFull)
     }
 
     /// Takes the report that has waited longest, if any waits. Its place is used again.
