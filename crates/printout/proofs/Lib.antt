@@ -1,4 +1,2 @@
-pub mod Texts
-pub mod Decimals
-pub mod Justified
 pub mod Few
+pub mod Fields

@@ -7,7 +7,7 @@ ghost use Rattle.columns.specs.Numbers.{rising};
 ghost use Rattle.printout.specs.Rows.{tick_row, refusal_row};
 ghost use Rattle.printout.specs.Written.{answer, memory};
 
-use crate::rows::Row;
+use crate::rows::{Row, copy_to, line_numbers, number};
 use columns::numbers::Numbers;
 use refusals::Refusal;
 
@@ -25,11 +25,11 @@ pub fn tick_row(tick: u32, points: i32, reported: Numbers, out: &mut [u8]) -> Op
     ensures enough { 576 ≤ length out.old → is_some result ≡ true }
 {
     let mut row = Row::new();
-    row.number(10, tick as u64);
-    row.signed(8, points);
-    row.line_numbers(reported);
-    row.push(b'\n');
-    row.copy_to(out)
+    number(&mut row, 10, tick);
+    number(&mut row, 8, points);
+    line_numbers(&mut row, reported);
+    row.push('\n');
+    copy_to(&row, out)
 }
 
 /// Writes the row of a refusal into the caller's memory, from its start on, and tells the row's length. Where the
@@ -41,12 +41,12 @@ pub fn refusal_row(refusal: Refusal, row: u64, column: u64, out: &mut [u8]) -> O
     ensures enough { 576 ≤ length out.old → is_some result ≡ true }
 {
     let mut line = Row::new();
-    line.word(b"refused");
-    line.number(4, refusal.number() as u64);
-    line.number(6, row);
-    line.number(11, column);
-    line.push(b'\n');
-    line.copy_to(out)
+    line.push_str("refused");
+    number(&mut line, 4, refusal.number());
+    number(&mut line, 6, row);
+    number(&mut line, 11, column);
+    line.push('\n');
+    copy_to(&line, out)
 }
 
 #[cfg(test)]
