@@ -10,7 +10,7 @@ use arrayvec::ArrayString;
 use columns::numbers::Numbers;
 use itoa::{Buffer, Integer};
 
-/// A row in the making. It has room for more than the longest row: two fields of at most 19 bytes, 128 fields of 4, and
+/// A row in the making. It has room for more than the longest row: two fields of at most 11 bytes, 128 fields of 4, and
 /// byte 10.
 pub(crate) type Row = ArrayString<ROOM>;
 
