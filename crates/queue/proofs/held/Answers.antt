@@ -1,10 +1,6 @@
-use Rattle.std.proofs.Common.{sym, ◌∙◌, arith}
+use Rattle.std.proofs.Common.{sym, ◌∙◌}
 use Rattle.queue.proofs.Turns.{length-waiting}
 use Rattle.queue.proofs.held.Goals as goal
 
-pub returns : goal.returns
-returns g c =
-    record {
-      value = λ head. c.min.ensures ∙ sym (length-waiting c.args.slots.now head c.args.count);
-      within = omega arith;
-    }
+pub returns-clause-value : goal.returns-clause-value
+returns-clause-value g c = λ head. c.min.ensures ∙ sym (length-waiting c.args.slots.now head c.args.count)

@@ -1,9 +1,9 @@
-use Rattle.std.proofs.Common.{arith}
+use Rattle.std.proofs.Common.{rules}
 use Rattle.queue.proofs.Turns.{in_slots, goes_on}
 use Rattle.queue.proofs.Queue.second.Goals as goal
 
 pub past-requires : goal.past-requires
-past-requires g c = let i = in_slots c.args.self.now c.requires in (omega arith, omega arith)
+past-requires g c = search (rules, in_slots)
 
 pub returns : goal.returns
-returns g c = let e = goes_on c.args.self.now c.requires in cc
+returns g c = search (rules, goes_on)
