@@ -1,30 +1,16 @@
 -- Lemmas on the slots in the order of their use, and on what waits in them.
-use Rattle.std.proofs.Common.{◌≡◌, ℕ, suc, ◌+◌, ◌-◌, ◌<◌, ◌≤◌, min, true, false, ltb, List, [], ◌∷◌, ◌++◌, length, get_or, take, drop, set, sym, refl, ap, ◌∙◌, inl, inr, arith}
+use Rattle.std.proofs.Common.{◌≡◌, ℕ, suc, ◌+◌, ◌-◌, ◌<◌, ◌≤◌, min, true, false, ltb, List, [], ◌∷◌, ◌++◌, length, get_or, take, drop, set, sym, refl, ap, ◌∙◌, inl, inr, rules, arith}
 use lib.Seq.{take-set-lt}
-use Rattle.std.proofs.lemmas.List.{append-nil, append_assoc, length-set, length-take, length-drop, length-append, take_all, take_at, take-append-drop, take_more, take_more_set, take-append-le, take-set-le, drop_all, drop_more, drop-set-add, drop-set-lt, set-append_left, set-append_right}
+use Rattle.std.proofs.lemmas.List.{append-nil, append_assoc, length-set, length-take, length-drop, length-append, take_all, take_min, take-append-drop, take_more, take_more_set, take-append-le, take-set-le, drop_all, drop_more, drop-set-add, drop-set-lt, set-append_left, set-append_right}
 use Rattle.std.proofs.lemmas.Bool.{cases_lt, lt-ltb, le-ltb}
 use Rattle.queue.specs.declared.Queue.{Queue}
 use Rattle.queue.specs.Queued.{turned, waiting, queued, room}
 use Rattle.queue.specs.Places.{start, past, back}
 use Rattle.queue.specs.Answers.{rest}
 
--- A front is the front of its own length.
-take-held : {T : Type 0} (count : ℕ) (xs : List T) → take count xs ≡ take (length (take count xs)) xs
-take-held count xs =
-    let n = length (take count xs) in
-    sym (ap (take n) (sym (take-append-drop count xs)) ∙ take_at (take count xs) (drop count xs) n refl)
-
--- The head's slot is a slot, and so is the one some places past a slot.
+-- The head's slot is a slot.
 pub start_in : (head size : ℕ) → 0 < size → start head size < size
-start_in head size some =
-    elim (cases_lt head size) [ inl lt ↦ rw (lt-ltb head size lt) lt | inr le ↦ rw (le-ltb head size le) some ]
-
-pub past_in : (at by size : ℕ) → at < size → by ≤ size → past at by size < size
-past_in at by size lt le =
-    elim (cases_lt (at + by) size) [
-      | inl h ↦ rw (lt-ltb (at + by) size h) h
-      | inr h ↦ rw (le-ltb (at + by) size h) (omega arith)
-    ]
+start_in head size some = search rules
 
 module _ {T : Type 0} (slots : List T) (head : ℕ) where
   -- Each slot is used once in a round.
@@ -43,11 +29,7 @@ module _ {T : Type 0} (slots : List T) (head : ℕ) where
 
   turned_start : turned head slots ≡ turned (start head (length slots)) slots
   unfolding turned
-  turned_start =
-      elim (cases_lt head (length slots)) [
-        | inl lt ↦ rw (lt-ltb head (length slots) lt)
-        | inr le ↦ rw (le-ltb head (length slots) le) (turned_past le ∙ sym (append-nil slots))
-      ]
+  turned_start = search (rules, turned_past, append-nil)
 
 module _ {T : Type 0} (slots : List T) (at : ℕ) (in_slots : at < length slots) where
   -- To write a slot is to write its place in the order of use.
@@ -107,7 +89,7 @@ module _ {T : Type 0} (q : Queue T) where
 
   -- What waits is the front of its own length.
   queued_all : queued q ≡ take (length (queued q)) (turned q.head slots)
-  queued_all = take-held q.count (turned q.head slots)
+  queued_all = rw length-take (sym (take_min q.count (turned q.head slots)))
 
   -- No more wait than there are places.
   pub queued_within : length (queued q) ≤ room q
@@ -142,7 +124,7 @@ module _ {T : Type 0} (q : Queue T) where
         ∙ ap (λ k. take k (get_or slots at d ∷ others slots at in_slots)) n
 
     pub begins : (d : T) → queued q ≡ get_or slots at d ∷ rest (queued q)
-    begins d = first_rest d ∙ ap (λ xs. get_or slots at d ∷ rest xs) (sym (first_rest d))
+    begins d = let e = first_rest d in cc
 
     -- From one place on, and one less, all but the oldest wait.
     pub goes_on : waiting slots (past at 1 (room q)) (length (queued q) - 1) ≡ rest (queued q)
