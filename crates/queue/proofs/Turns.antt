@@ -1,7 +1,7 @@
 -- Lemmas on the slots in the order of their use, and on what waits in them.
-use Rattle.std.proofs.Common.{◌≡◌, ℕ, suc, ◌+◌, ◌-◌, ◌<◌, ◌≤◌, min, true, false, ltb, List, [], ◌∷◌, ◌++◌, length, get_or, take, drop, set, sym, refl, ap, ◌∙◌, inl, inr, rules, arith}
+use Rattle.std.proofs.Common.{◌≡◌, ℕ, suc, ◌+◌, ◌-◌, ◌<◌, ◌≤◌, min, true, false, ltb, List, [], ◌∷◌, ◌++◌, length, get_or, take, drop, set, sym, ap, ◌∙◌, inl, inr, rules, arith}
 use lib.Seq.{take-set-lt}
-use Rattle.std.proofs.lemmas.List.{append-nil, append_assoc, length-set, length-take, length-drop, length-append, take_all, take_min, take-append-drop, take_more, take_more_set, take-append-le, take-set-le, drop_all, drop_more, drop-set-add, drop-set-lt, set-append_left, set-append_right}
+use Rattle.std.proofs.lemmas.List.{append-nil, append_assoc, length-set, length-take, length-drop, length-append, take_all, take_min, take_more, take_more_set, take-append-le, take-set-le, drop_all, drop_more, drop-set-add, drop-set-lt, set-append_left, set-append_right}
 use Rattle.std.proofs.lemmas.Bool.{cases_lt, lt-ltb, le-ltb}
 use Rattle.queue.specs.declared.Queue.{Queue}
 use Rattle.queue.specs.Queued.{turned, waiting, queued, room}

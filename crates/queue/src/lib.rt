@@ -6,6 +6,7 @@ ghost use Rattle.queue.specs.Places.{start, past, back};
 ghost use Rattle.queue.specs.Answers.{put_answer, put_after, put_slots, first, rest};
 
 /// A queue of fixed size over a lent slice: first in, first out.
+// Slots with a head and a count beside them, since the memory is the caller's, lent and not owned.
 #[derive(Drop)]
 pub struct Queue<'a, T> {
     slots: &'a mut [T],
@@ -120,6 +121,8 @@ impl<'a, T: Copy> Queue<'a, T> {
         past(self.start(), self.len(), self.room())
     }
 }
+
+// Functions over the slice, since a queue's methods hand its slots to them.
 
 // How many wait where `count` are said to, whatever the head: no more than there are slots.
 fn held<T>(slots: &[T], count: usize) -> usize

@@ -33,6 +33,7 @@ pub enum Refusal {
 
 impl Refusal {
     /// The number in the refusal table.
+    // The variant's own number by a cast: a `From` or a `Display` of it would say the same cast a second time.
     pub fn number(self) -> u8
         ensures { result ≡ number_of self }
     {

@@ -1,4 +1,4 @@
-use Rattle.std.proofs.Common.{rules, refl, arith}
+use Rattle.std.proofs.Common.{rules, refl}
 use Rattle.printout.proofs.Few.{rising_few}
 use Rattle.printout.proofs.Fields.{fields_done, fields_more}
 use Rattle.printout.proofs.rows.line_numbers.Goals as goal
