@@ -1,5 +1,5 @@
 use Rattle.std.proofs.Common.{◌≡◌, suc, ◌∷◌, ◌++◌, length, sym, refl, ap, ◌∙◌, arith}
-use Rattle.columns.specs.Numbers.{remaining}
+use Rattle.columns.specs.Numbers.{to_come}
 use Rattle.printout.specs.Rows.{number_fields}
 use Rattle.printout.specs.Text.{text}
 use Rattle.printout.proofs.Few.{rising_few}
@@ -8,14 +8,14 @@ use Rattle.printout.proofs.rows.Row.line_numbers.Goals as goal
 
 pub loop-number-init : goal.loop-number-init
 loop-number-init c =
-    let l = ap (λ m. length (remaining m)) c.into_iter-number-iterator.ensures.into_iter_gives ∙ ap length c.members-number-items.ensures in
+    let l = ap (λ m. length (to_come m)) c.into_iter-number-iterator.ensures.into_iter_gives ∙ ap length c.members-number-items.ensures in
     (refl, refl, omega (arith, rising_few c.args.numbers))
 
 pub loop-number-preserved : goal.loop-number-preserved
 loop-number-preserved c =
-    let left = remaining c.next.new.self in
+    let left = to_come c.next.new.self in
     let step = c.in-Some.ensures.steps in
-    let l : length (remaining c.loop-number.number-iterator) ≡ suc (length left) = ap length {y = c.in-Some.number ∷ left} step in (
+    let l : length (to_come c.loop-number.number-iterator) ≡ suc (length left) = ap length {y = c.in-Some.number ∷ left} step in (
       fields_more (text c.loop-number.self) _ _ left c.in-Some.number c.line_number.ensures.text step ∙ c.loop-number.invariant.0,
       omega arith,
       c.loop-number.invariant.2,
@@ -23,8 +23,8 @@ loop-number-preserved c =
 
 pub returns : goal.returns
 returns c =
-    let none = c.in-None.ensures.steps in
-    let all = ap remaining c.into_iter-number-iterator.ensures.into_iter_gives ∙ c.members-number-items.ensures in
+    let none = c.in-None.ensures.steps.0 in
+    let all = ap to_come c.into_iter-number-iterator.ensures.into_iter_gives ∙ c.members-number-items.ensures in
     let l = ap length none in
     let n = ap length all in
     record {
