@@ -44,10 +44,10 @@ impl Lookback {
         ensures { (k : ℕ) → mark result k ≡ looked_back self.now from k }
     {
         let mut seen = Column::none();
-        for i in 0..self.links.used {
-            let distance = self.links.near[i] as usize;
+        for distance in self.links.near.members() {
+            let distance = distance as usize;
             let column = self.ring[(from + 256 - distance) % 128];
-            seen = column.and(self.links.follow[distance % 128]).or(seen);
+            seen = seen.or(column.and(self.links.follow[distance % 128]));
         }
         seen
     }
