@@ -21,18 +21,8 @@ fn first_keywords(lines: &[LineRow]) -> Column
     firsts
 }
 
+// Which keywords the links are of is said by each function, since the links do not hold the keywords.
 impl Links {
-    // No keyword follows another.
-    fn none(lines: &[LineRow]) -> Links
-        ensures { (keywords : List KeywordRow) → LinkedTo result lines.now keywords 1 }
-    {
-        Links {
-            firsts: first_keywords(lines),
-            follow: [Column::none(); 128],
-            near: Numbers::none(),
-        }
-    }
-
     // One more keyword: it opens its line, or follows the one before it.
     fn link(&mut self, before: usize, row: KeywordRow)
         requires { (before < 511) × Fits row }
@@ -52,7 +42,11 @@ impl Links {
         requires few { length keywords.now ≤ 512 }
         ensures { LinkedTo result lines.now keywords.now (length keywords.now) }
     {
-        let mut links = Links::none(lines);
+        let mut links = Links {
+            firsts: first_keywords(lines),
+            follow: [Column::none(); 128],
+            near: Numbers::none(),
+        };
         for (before, row) in keywords.iter().skip(1).enumerate() {
             links.link(before, *row);
         }

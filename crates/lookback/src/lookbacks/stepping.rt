@@ -30,10 +30,9 @@ impl Lookback {
     fn over(links: Links) -> Lookback
         ensures { (lines : List LineRow) (keywords : List KeywordRow) → LinkedTo links lines keywords (length keywords) → AllFit keywords → Represents result lines keywords [] }
     {
-        let none = Column::none();
         Lookback {
             links,
-            ring: [none; 128],
+            ring: [Column::none(); 128],
             newest: 0,
         }
     }
@@ -84,8 +83,7 @@ impl Lookback {
     pub fn clear(&mut self)
         ensures { (lines : List LineRow) (keywords : List KeywordRow) (past : List (ℕ → Bool)) → Represents self.old lines keywords past → Represents self.new lines keywords [] }
     {
-        let fresh = Lookback::over(self.links);
-        *self = fresh;
+        *self = Lookback::over(self.links);
     }
 
     /// How many columns there are. Packed side by side in them, the marks of one line never depend on another line's.

@@ -4,14 +4,24 @@ use Rattle.std.proofs.lemmas.Iterator.{YieldsList-from_slice}
 use Rattle.std.proofs.lemmas.Iterator.Adapters.{YieldsList-from_skip}
 use Rattle.std.proofs.lemmas.Iterator.Consumers.{YieldsList-from_enumerate, YieldsList-turn, YieldsList-end}
 use Rattle.std.proofs.lemmas.List.FromFn.{length-enumerate_from, get_or-enumerate_from}
+use Rattle.std.proofs.lemmas.List.{get_or-replicate}
+use Rattle.std.proofs.lemmas.Bool.{and_left, le-ltb}
 use Rattle.book.specs.declared.rows.LineRow.{LineRow}
 use Rattle.book.specs.declared.rows.KeywordRow.{KeywordRow}
+use Rattle.columns.specs.Marks.{mark, blank}
 use Rattle.lookback.specs.declared.links.Links.{Links}
 use Rattle.lookback.specs.Linked.{LinkedTo}
 use Rattle.lookback.specs.Prefixes.{reach}
 use Rattle.lookback.proofs.Grows.{none_linked}
 use Rattle.lookback.proofs.Reaches.{reach_at}
 use Rattle.lookback.proofs.links.Links.of.Goals as goal
+
+pub loop-before-init : goal.loop-before-init
+loop-before-init c = record {
+  firsts = c.first_keywords.ensures;
+  followed = λ d below k h. ap (λ x. mark x k) (get_or-replicate 128 d c.none.result blank below) ∙ c.none.ensures k ∙ sym (and_left _ _ (le-ltb (suc k) 1 (omega arith)));
+  listed = λ k h o. absurd (let z : ⊥ = omega arith in z);
+}
 
 -- a turn has the keyword behind the one that it counts
 turn_at : (ks : List KeywordRow) (i : ℕ) (p : ℕ × KeywordRow) → (i < length (enumerate_from 0 (drop 1 ks))) × (p ≡ get_or (enumerate_from 0 (drop 1 ks)) i p)
