@@ -6,7 +6,7 @@ use Rattle.bench.specs.declared.recent.Recent.{Recent}
 
 -- what a list of sets reads as past its end, which has no member
 abbrev pub nobody : Numbers
-nobody = record { bits = record { words = [] } }
+nobody = record { 0 = record { words = [] } }
 
 -- whether a number is noted for a tick, one of the latest 64
 unfoldable pub noted : Recent → ℕ → ℕ → Bool

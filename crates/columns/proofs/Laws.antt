@@ -1,8 +1,9 @@
--- Laws of columns and of sets of line numbers, for the crates that use them.
-use Rattle.std.proofs.Common.{◌≡◌, ℕ, ◌+◌, ◌*◌, ◌^◌, ◌<◌, ◌≤◌, true, false, [], ◌∷◌, length, get_or, sym, refl, ap, ◌∙◌, arith, MatchOption}
+-- Laws of columns and of sets of numbers, for the crates that use them.
+use Rattle.std.proofs.Common.{◌≡◌, ℕ, ◌+◌, ◌*◌, ◌^◌, ◌<◌, ◌≤◌, true, false, length, get_or, sym, refl, ap, ◌∙◌, arith}
 use Rattle.std.specs.List.{ContainsAt, AllByRecursion}
+use Rattle.std.specs.Iterator.{YieldsFirst}
 use Rattle.std.proofs.lemmas.Iterator.{YieldsList}
-use Rattle.std.proofs.lemmas.Iterator.Consumers.{YieldsList-from_shown}
+use Rattle.std.proofs.lemmas.Iterator.Consumers.{YieldsList-from_first}
 use Rattle.std.proofs.lemmas.List.{ext_get_or}
 use Rattle.columns.specs.declared.bits.Bits.{Bits}
 use Rattle.columns.specs.declared.marks.Column.{Column}
@@ -10,19 +11,19 @@ use Rattle.columns.specs.declared.numbers.Numbers.{Numbers}
 use Rattle.columns.specs.declared.numbers.Members.{Members}
 use Rattle.columns.specs.Bits.{bit}
 use Rattle.columns.specs.Marks.{mark, blank}
-use Rattle.columns.specs.Numbers.{member, rising, remaining}
+use Rattle.columns.specs.Numbers.{member, rising, to_come}
 use Rattle.columns.proofs.Digits.{same_digits}
-use Rattle.columns.proofs.Places.{bits_none, bit_past, bit_at, set_below, set_from}
+use Rattle.columns.proofs.Places.{bits_none, bit_past, word_bit, set_below, set_from}
 use Rattle.columns.proofs.Rises.{passing_each, passing_has, length-passing, passing_same}
 
 -- A column has the marks 0 to 511.
 pub mark_past : (c : Column) (k : ℕ) → 512 ≤ k → mark c k ≡ false
 unfolding mark
-mark_past c k h = bit_past c.bits k h
+mark_past c k h = bit_past c.0 k h
 
 pub mark_below : (c : Column) (k : ℕ) → mark c k ≡ true → k < 512
 unfolding mark
-mark_below c k h = set_below c.bits k h
+mark_below c k h = set_below c.0 k h
 
 pub mark_blank : (k : ℕ) → mark blank k ≡ false
 unfolding mark
@@ -37,22 +38,22 @@ same_bits {first} {n} a b wa wb same =
     let words : a.words ≡ b.words =
     ext_get_or 0 a.words b.words (wa.0 ∙ sym wb.0)
     (λ i h. let l : i < n = omega (arith, wa.0) in
-    same_digits 64 _ _ (wa.1 i) (wb.1 i) (λ j lt. sym (bit_at a i j l lt) ∙ same (first + (64 * i + j)) ∙ bit_at b i j l lt)) in
+    same_digits 64 _ _ (wa.1 i) (wb.1 i) (λ j lt. sym (word_bit a i j l lt) ∙ same (first + (64 * i + j)) ∙ word_bit b i j l lt)) in
     ap (λ ws. record { words = ws }) words
 
 -- Columns with the same marks are equal.
-pub same_marks : (c d : Column) → Whole c.bits → Whole d.bits → ((k : ℕ) → mark c k ≡ mark d k) → c ≡ d
+pub same_marks : (c d : Column) → Whole c.0 → Whole d.0 → ((k : ℕ) → mark c k ≡ mark d k) → c ≡ d
 unfolding mark
-same_marks c d wc wd same = ap (λ b. record { bits = b }) (same_bits c.bits d.bits wc wd same)
+same_marks c d wc wd same = ap (λ b. record { 0 = b }) (same_bits c.0 d.0 wc wd same)
 
-pub same_members : (s t : Numbers) → Whole s.bits → Whole t.bits → ((n : ℕ) → member s n ≡ member t n) → s ≡ t
+pub same_members : (s t : Numbers) → Whole s.0 → Whole t.0 → ((n : ℕ) → member s n ≡ member t n) → s ≡ t
 unfolding member
-same_members s t ws wt same = ap (λ b. record { bits = b }) (same_bits s.bits t.bits ws wt same)
+same_members s t ws wt same = ap (λ b. record { 0 = b }) (same_bits s.0 t.0 ws wt same)
 
--- Only line numbers are members.
+-- Only 1 to 128 are members.
 pub member_number : (s : Numbers) (n : ℕ) → member s n ≡ true → (1 ≤ n) × (n ≤ 128)
 unfolding member
-member_number s n h = (set_from s.bits n h, omega (arith, set_below s.bits n h))
+member_number s n h = (set_from s.0 n h, omega (arith, set_below s.0 n h))
 
 -- The list of the members: each is a member, each member is there, there are 128 at most, and sets with the same members
 -- have the same list.
@@ -69,5 +70,5 @@ pub same_rising : (s t : Numbers) → ((n : ℕ) → member s n ≡ member t n) 
 same_rising s t same = passing_same (member s) (member t) 1 128 same
 
 -- What an iterator over a set gives.
-pub members_road : (m : Members) → YieldsList (λ s r t. MatchOption r (remaining s ≡ []) (λ n. remaining s ≡ n ∷ remaining t)) (λ n. n) m (remaining m)
-members_road m = YieldsList-from_shown _ (λ n. n) remaining (λ s t h. ap length h) (λ s n t h. h) m
+pub members_road : (m : Members) → YieldsList (YieldsFirst to_come) (λ n. n) m (to_come m)
+members_road m = YieldsList-from_first (λ n. n) to_come (to_come m) refl

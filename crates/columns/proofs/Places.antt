@@ -1,15 +1,17 @@
 -- Lemmas on bits in words.
-use Rattle.std.proofs.Common.{◌≡◌, ℕ, zero, suc, ◌+◌, ◌-◌, ◌*◌, ◌/◌, ◌%◌, ◌^◌, ◌<◌, ◌≤◌, Bool, true, false, ◌&&◌, ◌||◌, eqb, List, length, get_or, set, sym, refl, ap, ◌∙◌, subst, inl, inr, add_assoc, add-suc, arith, get_or-set_other, get_or-set_same}
-use borrow.Author.Numbers.{trailing_lt}
-use lib.Bits.{bit_or}
+use Rattle.std.proofs.Common.{◌≡◌, ℕ, zero, suc, ◌+◌, ◌-◌, ◌*◌, ◌/◌, ◌%◌, ◌^◌, ◌<◌, ◌≤◌, Bool, true, false, not, ◌&&◌, ◌||◌, eqb, List, length, get_or, set, sym, refl, ap, ◌∙◌, subst, inl, inr, add_assoc, add-suc, arith, get_or-set_other, get_or-set_same}
+use Rattle.std.specs.Int.{w64}
+use Rattle.std.proofs.Math.Bool.{and-true}
+use lib.Bits.{bit_and, bit_or}
 use lib.Count.{count_trailing_zeros}
-use Rattle.std.proofs.lemmas.Nat.{shr_le}
+use Rattle.std.specs.Int.{bit_at}
+use Rattle.std.proofs.lemmas.Nat.Bits.{bit_at-trailing_zeros}
 use Rattle.std.proofs.lemmas.Bool.{cases_eq, cases_Bool, cases_lt, both_ways, and_parts, leb-true, ltb-true, ne_eqb, le-leb, lt-ltb, and_from, lt-leb, le-ltb, and_left, and_right}
 use Rattle.std.proofs.lemmas.Bool.Decides.{nat_tests}
 use Rattle.columns.specs.declared.bits.Bits.{Bits}
 use Rattle.columns.specs.Bits.{digit, inside, bit}
-use Rattle.columns.specs.Passing.{one_up}
-use Rattle.columns.proofs.Digits.{digit_shr, digit-zero, digit_past, digit_with, same_digits, moved, moved_low, moved_up, carry_out, trailing_below, trailing_at}
+use Rattle.columns.specs.Passing.{one_up, IsLeast}
+use Rattle.columns.proofs.Digits.{digit-zero, digit_and, digit_with, same_digits, moved, moved_low, moved_up, carry_out, lowest_off}
 
 -- The numbers inside are those of the places.
 inside_parts : (first n k : ℕ) → inside first n k ≡ true → (first ≤ k) × (k < first + 64 * n)
@@ -143,8 +145,8 @@ module _ {first n : ℕ} (b : Bits first n) (at : ℕ) (long : length b.words �
       k)
 
 -- The bits of word i.
-pub bit_at : {first n : ℕ} (b : Bits first n) (i j : ℕ) → i < n → j < 64 → bit b (first + (64 * i + j)) ≡ digit (get_or b.words i 0) j
-bit_at b i j hi hj =
+pub word_bit : {first n : ℕ} (b : Bits first n) (i j : ℕ) → i < n → j < 64 → bit b (first + (64 * i + j)) ≡ digit (get_or b.words i 0) j
+word_bit b i j hi hj =
     let q : (64 * i + j) / 64 ≡ i = omega arith in
     let m : (64 * i + j) % 64 ≡ j = omega arith in
     rw (bit_in b (64 * i + j) (omega arith), q, m)
@@ -153,43 +155,54 @@ bit_at b i j hi hj =
 pub word_clear : {first n : ℕ} (b : Bits first n) (i : ℕ) → i < n → get_or b.words i 0 < 2 ^ 64 → ((k : ℕ) → bit b k ≡ false) → get_or b.words i 0 ≡ 0
 word_clear {first} b i h fits none =
     same_digits 64 (get_or b.words i 0) 0 fits (omega arith)
-    (λ j lt. sym (bit_at b i j h lt) ∙ none (first + (64 * i + j)) ∙ sym (digit-zero j))
+    (λ j lt. sym (word_bit b i j h lt) ∙ none (first + (64 * i + j)) ∙ sym (digit-zero j))
 
--- The rest of a word from a place on.
-module _ {first n : ℕ} (b : Bits first n) (at : ℕ) (in_n : at < 64 * n) (fits : get_or b.words (at / 64) 0 < 2 ^ 64) where
-  abbrev rest : ℕ
-  rest = get_or b.words (at / 64) 0 / 2 ^ (at % 64)
+-- Without its lowest bit, in the first word that is not 0.
+module _ {first n : ℕ} (b : Bits first n) (i : ℕ) (long : length b.words ≡ n) (in_n : i < n) (some : get_or b.words i 0 ≡ 0 → ⊥) (fits : get_or b.words i 0 < 2 ^ 64)
+    (before : (k : ℕ) → k < i → get_or b.words k 0 ≡ 0) where
+  abbrev first_word : ℕ
+  first_word = get_or b.words i 0
 
-  rest_at : (j : ℕ) → at % 64 + j < 64 → bit b (first + (at + j)) ≡ digit rest j
-  rest_at j h =
-      let q : (at + j) / 64 ≡ at / 64 = omega arith in
-      let m : (at + j) % 64 ≡ at % 64 + j = omega arith in
-      rw (bit_in b (at + j) (omega arith), q, m, digit_shr (get_or b.words (at / 64) 0) (at % 64) j)
+  abbrev lowest : ℕ
+  lowest = first + 64 * i + count_trailing_zeros 64 first_word
 
-  -- Where the rest is 0, no bit is set before the next word.
-  pub rest_clear : rest ≡ 0 → (k : ℕ) → first + at ≤ k → k < first + (at / 64 + 1) * 64 → bit b k ≡ false
-  rest_clear z k lo hi =
-      let e : k ≡ first + (at + (k - first - at)) = omega arith in
-      rw (e, rest_at (k - first - at) (omega arith), z) (digit-zero (k - first - at))
+  abbrev fewer : Bits first n
+  fewer = record { words = set b.words i (bit_and first_word (first_word - 1)) }
 
-  -- Else the bit of its lowest digit is set, and none before it.
-  module _ (some : rest ≡ 0 → ⊥) where
-    lowest : digit rest (count_trailing_zeros 64 rest) ≡ true
-    lowest = trailing_at 64 rest (trailing_lt 64 rest (omega arith) (omega (arith, shr_le (get_or b.words (at / 64) 0) (at % 64))))
+  zeros : (count_trailing_zeros 64 first_word < 64) × (bit_at first_word (count_trailing_zeros 64 first_word) ≡ 1) × ((j : ℕ) → j < count_trailing_zeros 64 first_word → bit_at first_word j ≡ 0)
+  zeros = bit_at-trailing_zeros w64 first_word (omega arith) fits
 
-    in_word : at % 64 + count_trailing_zeros 64 rest < 64
-    in_word =
-        elim (cases_lt (at % 64 + count_trailing_zeros 64 rest) 64) [
-          | inl lt ↦ lt
+  pub bits_least : IsLeast (bit b) lowest
+  unfolding digit
+  bits_least = (
+    rw (add_assoc first (64 * i) (count_trailing_zeros 64 first_word), word_bit b i (count_trailing_zeros 64 first_word) in_n zeros.0, zeros.1),
+    λ k h.
+        elim (cases_lt k first) [
+          | inl lt ↦ bit_below b k lt
           | inr le ↦
-              absurd (both_ways _ (digit_shr (get_or b.words (at / 64) 0) (at % 64) (count_trailing_zeros 64 rest) ∙ digit_past (get_or b.words (at / 64) 0) 64 _ fits le) lowest)
-        ]
+              let z = zeros.0 in
+              let e : k ≡ first + (k - first) = omega arith in
+              rw (e, bit_in b (k - first) (omega arith))
+              (elim (cases_eq ((k - first) / 64) i) [
+                | inl q ↦ rw (q, zeros.2 ((k - first) % 64) (omega arith))
+                | inr q ↦ rw (before ((k - first) / 64) (omega arith)) (digit-zero ((k - first) % 64))
+              ])
+        ],
+  )
 
-    pub rest-set : bit b (first + at + count_trailing_zeros 64 rest) ≡ true
-    rest-set = rw (add_assoc first at (count_trailing_zeros 64 rest), rest_at (count_trailing_zeros 64 rest) in_word) lowest
-
-    pub rest_before : (k : ℕ) → first + at ≤ k → k < first + at + count_trailing_zeros 64 rest → bit b k ≡ false
-    rest_before k lo hi =
-        let e : k ≡ first + (at + (k - first - at)) = omega arith in
-        let i = in_word in
-        rw (e, rest_at (k - first - at) (omega arith)) (trailing_below 64 rest (k - first - at) (omega arith))
+  pub bits_without : (k : ℕ) → bit fewer k ≡ (bit b k && not (eqb k lowest))
+  bits_without =
+      place_cases (λ k. bit fewer k ≡ (bit b k && not (eqb k lowest))) first n
+      (λ place h.
+      rw (bit_in fewer place h, bit_in b place h)
+      (elim (cases_eq (place / 64) i) [
+        | inl q ↦
+            let l : i < length b.words = omega arith in
+            let e : eqb (first + place) lowest ≡ eqb (place % 64) (count_trailing_zeros 64 first_word) = grind (arith, nat_tests) in
+            rw (q, get_or-set_same b.words i (bit_and first_word (first_word - 1)) 0 l, digit_and first_word (first_word - 1) (place % 64), e)
+            (lowest_off 64 first_word (place % 64) zeros.0)
+        | inr q ↦
+            let z = zeros.0 in
+            rw (get_or-set_other b.words i (place / 64) (bit_and first_word (first_word - 1)) 0 q, ne_eqb (first + place) lowest (omega arith)) (sym (and-true _))
+      ]))
+      (λ k h. rw (bit_out fewer k h, bit_out b k h))

@@ -1,11 +1,12 @@
 -- Lemmas on the numbers that pass a test, in rising order.
-use Rattle.std.proofs.Common.{◌≡◌, ℕ, zero, suc, ◌+◌, ◌-◌, ◌<◌, ◌≤◌, Bool, true, [], ◌∷◌, length, refl, inl, inr, arith}
+use Rattle.std.proofs.Common.{◌≡◌, ℕ, zero, suc, ◌+◌, ◌<◌, ◌≤◌, Bool, true, false, not, ◌&&◌, eqb, [], ◌∷◌, length, refl, inl, inr, arith}
 use Rattle.std.specs.List.{range_with_len, ContainsAt, AllByRecursion}
 use Rattle.std.proofs.lemmas.List.FromFn.{length-range_with_len}
 use Rattle.std.proofs.ByRecursion.{kept_by_passes, has_append_right}
 use Rattle.std.proofs.lemmas.List.Sums.{length-filter, count_by-le-length}
-use Rattle.std.proofs.lemmas.Bool.{cases_eq, cases_Bool}
-use Rattle.columns.specs.Passing.{passing, NoneFrom, LeastFrom}
+use Rattle.std.proofs.lemmas.Bool.{cases_eq, cases_Bool, ne_eqb, eq-eqb}
+use Rattle.std.proofs.Math.Bool.{and-true}
+use Rattle.columns.specs.Passing.{passing, IsLeast}
 
 -- Each passes, and each that passes is there.
 pub passing_each : (p : ℕ → Bool) (a n : ℕ) → AllByRecursion (λ k. p k ≡ true) (passing p a n)
@@ -36,28 +37,25 @@ passing_same p q a zero same = refl
 passing_same p q a (suc n) same = rw (same a, passing_same p q (a + 1) n same)
 
 -- None, where none passes.
-pub passing_none : (p : ℕ → Bool) (n a : ℕ) → NoneFrom p a → passing p a n ≡ []
+pub passing_none : (p : ℕ → Bool) (a n : ℕ) → ((k : ℕ) → p k ≡ false) → passing p a n ≡ []
 unfolding passing
-passing_none p zero a none = refl
-passing_none p (suc n) a none = let e = none a (omega arith) in rw e (passing_none p n (a + 1) (λ k h. none k (omega arith)))
+passing_none p a zero none = refl
+passing_none p a (suc n) none = rw (none a, passing_none p (a + 1) n none)
 
--- The least that passes comes first, and then those above it.
-least_first : (p : ℕ → Bool) (n a m : ℕ) → LeastFrom p a m → m < a + n → passing p a n ≡ m ∷ passing p (m + 1) (a + n - (m + 1))
-unfolding passing
-least_first p zero a m least h = absurd (omega (arith, least.0))
-least_first p (suc n) a m least h =
-    elim (cases_eq a m) [
-      | inl e ↦
-          let r : a + suc n - (m + 1) ≡ n = omega arith in
-          rw (r, e, least.1)
-      | inr e ↦
-          let f = least.2 a (omega arith) (omega (arith, least.0)) in
-          let r : a + suc n - (m + 1) ≡ a + 1 + n - (m + 1) = omega arith in
-          rw (f, r) (least_first p n (a + 1) m (omega (arith, least.0), least.1, λ k lo hi. least.2 k (omega arith) hi) (omega arith))
-    ]
+-- The least that passes comes first, and then those that pass without it.
+module _ (p q : ℕ → Bool) (m : ℕ) (least : IsLeast p m) (without : (k : ℕ) → q k ≡ (p k && not (eqb k m))) where
+  above : (a n : ℕ) → m < a → passing p a n ≡ passing q a n
+  unfolding passing
+  above a zero h = refl
+  above a (suc n) h =
+      let e : q a ≡ p a = rw (without a, ne_eqb a m (omega arith)) (and-true (p a)) in
+      rw (e, above (a + 1) n (omega arith))
 
-pub passing_least : (p : ℕ → Bool) (top a m : ℕ) → LeastFrom p a m → m < top → passing p a (top - a) ≡ m ∷ passing p (m + 1) (top - (m + 1))
-passing_least p top a m least h =
-    let l = least.0 in
-    let e : a + (top - a) - (m + 1) ≡ top - (m + 1) = omega arith in
-    rw (← e) (least_first p (top - a) a m least (omega arith))
+  pub passing_least : (a n : ℕ) → a ≤ m → m < a + n → passing p a n ≡ m ∷ passing q a n
+  unfolding passing
+  passing_least a zero lo hi = absurd (omega arith)
+  passing_least a (suc n) lo hi =
+      elim (cases_eq a m) [
+        | inl e ↦ rw (e, least.0, without m, eq-eqb m m refl, least.0, above (m + 1) n (omega arith))
+        | inr e ↦ let f = least.1 a (omega arith) in rw (without a, f) (passing_least (a + 1) n (omega arith) (omega arith))
+      ]

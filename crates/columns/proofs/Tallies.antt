@@ -1,13 +1,16 @@
 -- Lemmas on how many numbers pass a test.
-use Rattle.std.proofs.Common.{◌≡◌, ℕ, zero, suc, ◌+◌, ◌*◌, ◌/◌, ◌%◌, ◌^◌, ◌<◌, ◌≤◌, Bool, true, false, cond, get_or, sym, refl, ap, ◌∙◌, add-zero, add_assoc, add-suc, arith}
+use Rattle.std.proofs.Common.{◌≡◌, ℕ, zero, suc, ◌+◌, ◌*◌, ◌/◌, ◌%◌, ◌^◌, ◌<◌, ◌≤◌, Bool, true, false, cond, length, get_or, take, sym, refl, ap, ◌∙◌, add-zero, add_assoc, add-suc, arith}
 use native.Mathlib.Nat.{pow-succ'}
 use lib.Count.{ones, ones_step, ones-le}
+use Rattle.std.specs.List.{sum_by}
+use Rattle.std.proofs.lemmas.List.{take_all}
+use Rattle.std.proofs.lemmas.List.Sums.{sum_by_more}
 use Rattle.std.proofs.lemmas.Bool.Decides.{nat_tests}
 use Rattle.columns.specs.declared.bits.Bits.{Bits}
 use Rattle.columns.specs.Bits.{digit, bit}
 use Rattle.columns.specs.Passing.{how_many}
 use Rattle.columns.proofs.Digits.{digit_low, digit_up}
-use Rattle.columns.proofs.Places.{bit_at}
+use Rattle.columns.proofs.Places.{bit_below, word_bit}
 
 pub how_many-le : (p : ℕ → Bool) (n : ℕ) → how_many p n ≤ n
 unfolding how_many
@@ -45,9 +48,22 @@ how_many_digits (suc n) w h =
     let p = pow-succ' 2 n in
     how_many_low w n ∙ ap (λ (x : ℕ). w % 2 + x) (how_many_digits n (w / 2) (omega (arith, p))) ∙ sym (ones_step w)
 
--- One word more.
-pub how_many-word : {first n : ℕ} (b : Bits first n) (i : ℕ) → i < n → get_or b.words i 0 < 2 ^ 64 → how_many (bit b) (first + 64 * (i + 1)) ≡ how_many (bit b) (first + 64 * i) + ones (get_or b.words i 0)
-how_many-word {first} b i h fits =
-    let e : first + 64 * (i + 1) ≡ first + 64 * i + 64 = omega arith in
-    let same : (j : ℕ) → j < 64 → bit b (first + 64 * i + j) ≡ digit (get_or b.words i 0) j = λ j lt. rw (add_assoc first (64 * i) j) (bit_at b i j h lt) in
-    rw (e, how_many-add (bit b) (first + 64 * i) 64, how_many_same (λ j. bit b (first + 64 * i + j)) (digit (get_or b.words i 0)) 64 same, how_many_digits 64 (get_or b.words i 0) fits)
+-- The bits are those of each word.
+module _ {first n : ℕ} (b : Bits first n) (long : length b.words ≡ n) (fits : (i : ℕ) → get_or b.words i 0 < 2 ^ 64) where
+  word_more : (i : ℕ) → i < n → how_many (bit b) (first + 64 * (i + 1)) ≡ how_many (bit b) (first + 64 * i) + ones (get_or b.words i 0)
+  word_more i h =
+      let e : first + 64 * (i + 1) ≡ first + 64 * i + 64 = omega arith in
+      let same : (j : ℕ) → j < 64 → bit b (first + 64 * i + j) ≡ digit (get_or b.words i 0) j = λ j lt. rw (add_assoc first (64 * i) j) (word_bit b i j h lt) in
+      rw (e, how_many-add (bit b) (first + 64 * i) 64, how_many_same (λ j. bit b (first + 64 * i + j)) (digit (get_or b.words i 0)) 64 same, how_many_digits 64 (get_or b.words i 0) (fits i))
+
+  words_below : (i : ℕ) → i ≤ n → how_many (bit b) (first + 64 * i) ≡ sum_by ones (take i b.words)
+  words_below zero h = how_many_none (bit b) (first + 64 * 0) (λ k lt. bit_below b k (omega arith))
+  words_below (suc i) h =
+      let m = word_more i (omega arith) in
+      let s = sum_by_more ones b.words i 0 (omega (arith, long)) in
+      let p = words_below i (omega arith) in
+      let e : suc i ≡ i + 1 = omega arith in
+      rw e (omega (arith, m, s, p))
+
+  pub how_many-words : how_many (bit b) (first + 64 * n) ≡ sum_by ones b.words
+  how_many-words = let all = take_all n b.words (omega (arith, long)) in words_below n (omega arith) ∙ ap (sum_by ones) all

@@ -1,5 +1,5 @@
 -- Tests of numbers, and which numbers pass.
-use Rattle.std.specs.Prelude.{◌≡◌, ℕ, zero, suc, ◌+◌, ◌<◌, ◌≤◌, Bool, true, false, cond, List, filter}
+use Rattle.std.specs.Prelude.{◌≡◌, ℕ, zero, suc, ◌+◌, ◌<◌, Bool, true, false, cond, List, filter}
 use Rattle.std.specs.List.{range_with_len}
 
 -- a test moved up by one: a number passes if the one before it did
@@ -16,10 +16,6 @@ how_many p (suc n) = cond (p n) 1 0 + how_many p n
 unfoldable pub passing : (ℕ → Bool) → ℕ → ℕ → List ℕ
 passing p a n = filter p (range_with_len a n)
 
--- no number from a on passes
-abbrev pub NoneFrom : (ℕ → Bool) → ℕ → Type 0
-NoneFrom p a = (k : ℕ) → a ≤ k → p k ≡ false
-
--- m is the least number from a on that passes
-abbrev pub LeastFrom : (ℕ → Bool) → ℕ → ℕ → Type 0
-LeastFrom p a m = (a ≤ m) × (p m ≡ true) × ((k : ℕ) → a ≤ k → k < m → p k ≡ false)
+-- m is the least number that passes
+abbrev pub IsLeast : (ℕ → Bool) → ℕ → Type 0
+IsLeast p m = (p m ≡ true) × ((k : ℕ) → k < m → p k ≡ false)

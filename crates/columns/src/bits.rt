@@ -1,7 +1,7 @@
 // Bits in words, each with a number.
-ghost use Rattle.std.specs.Prelude.{◌≡◌, ℕ, ◌+◌, ◌*◌, ◌^◌, ◌<◌, ◌≤◌, true, false, ◌&&◌, ◌||◌, Decides, MatchOption, ◌==◌};
+ghost use Rattle.std.specs.Prelude.{◌≡◌, ℕ, ◌+◌, ◌*◌, ◌^◌, ◌<◌, ◌≤◌, true, false, not, ◌&&◌, ◌||◌, Decides, MatchOption, ◌==◌, slice_index, ◌≢◌};
 ghost use Rattle.columns.specs.Bits.{bit, inside};
-ghost use Rattle.columns.specs.Passing.{one_up, how_many, NoneFrom, LeastFrom};
+ghost use Rattle.columns.specs.Passing.{one_up, how_many, IsLeast};
 
 /// The bits of N words, numbered from FIRST on.
 #[derive(Clone, Copy)]
@@ -16,38 +16,41 @@ impl<const FIRST: usize, const N: usize> Bits<FIRST, N> {
         Bits { words: [0; N] }
     }
 
+    // The sets joined word by word.
+    fn joined<J: Fn(u64, u64) -> u64>(mut self, other: Bits<FIRST, N>, join: J) -> Bits<FIRST, N>
+        requires { J.IsAlwaysCallable join }
+        ensures { (i : ℕ) → i < N → J.post join (slice_index self.entry.words i) (slice_index other.entry.words i) (slice_index result.words i) }
+    {
+        // By index, since the words of both sets stand at it.
+        for (i, word) in self.words.iter_mut().enumerate() {
+            *word = join(*word, other.words[i]);
+        }
+        self
+    }
+
     pub(crate) fn and(self, other: Bits<FIRST, N>) -> Bits<FIRST, N>
         ensures { (k : ℕ) → bit result k ≡ (bit self.entry k && bit other.entry k) }
     {
-        let mut words = [0; N];
-        for i in 0..N {
-            words[i] = self.words[i] & other.words[i];
-        }
-        Bits { words }
+        self.joined(other, |word, others| word & others)
     }
 
     pub(crate) fn or(self, other: Bits<FIRST, N>) -> Bits<FIRST, N>
         ensures { (k : ℕ) → bit result k ≡ (bit self.entry k || bit other.entry k) }
     {
-        let mut words = [0; N];
-        for i in 0..N {
-            words[i] = self.words[i] | other.words[i];
-        }
-        Bits { words }
+        self.joined(other, |word, others| word | others)
     }
 
     /// Every bit one number up: the last falls out.
-    pub(crate) fn shifted(self) -> Bits<FIRST, N>
+    pub(crate) fn shifted(mut self) -> Bits<FIRST, N>
         ensures { (k : ℕ) → bit result k ≡ (inside FIRST N k && one_up (bit self.entry) k) }
     {
-        let mut words = [0; N];
         let mut carry = 0;
-        for i in 0..N {
-            let word = self.words[i];
-            words[i] = (word << 1) | carry;
-            carry = word >> 63;
+        for word in self.words.iter_mut() {
+            let last = *word >> 63;
+            *word = (*word << 1) | carry;
+            carry = last;
         }
-        Bits { words }
+        self
     }
 
     // The place of a number's bit, counted from 0, if it has a bit.
@@ -59,17 +62,13 @@ impl<const FIRST: usize, const N: usize> Bits<FIRST, N> {
     }
 
     /// The same bits and the number's own, if it has one.
-    pub(crate) fn with(self, number: usize) -> Bits<FIRST, N>
+    pub(crate) fn with(mut self, number: usize) -> Bits<FIRST, N>
         ensures { (k : ℕ) → bit result k ≡ ((inside FIRST N number && k == number) || bit self.entry k) }
     {
-        match Self::place(number) {
-            Some(place) => {
-                let mut words = self.words;
-                words[place / 64] |= 1 << (place % 64);
-                Bits { words }
-            }
-            None => self,
+        if let Some(place) = Self::place(number) {
+            self.words[place / 64] |= 1 << (place % 64);
         }
+        self
     }
 
     pub(crate) fn has(self, number: usize) -> bool
@@ -81,15 +80,17 @@ impl<const FIRST: usize, const N: usize> Bits<FIRST, N> {
         }
     }
 
+    // Where the first word is that has a bit set.
+    fn first_word(self) -> Option<usize>
+        ensures { MatchOption result ((i : ℕ) → i < N → slice_index self.entry.words i ≡ 0) (λ i. (i < N) × (slice_index self.entry.words i ≢ 0) × ((k : ℕ) → k < i → slice_index self.entry.words k ≡ 0)) }
+    {
+        self.words.iter().position(|word| *word != 0)
+    }
+
     pub(crate) fn is_empty(self) -> bool
         ensures { Decides result ((k : ℕ) → bit self.entry k ≡ false) }
     {
-        for i in 0..N {
-            if self.words[i] != 0 {
-                return false;
-            }
-        }
-        true
+        self.first_word().is_none()
     }
 
     /// How many bits are set, of so few that the count fits.
@@ -97,26 +98,20 @@ impl<const FIRST: usize, const N: usize> Bits<FIRST, N> {
         requires { FIRST + 64 * N ≤ 2 ^ 32 }
         ensures { result ≡ how_many (bit self.entry) (FIRST + 64 * N) }
     {
-        let mut count = 0;
-        for i in 0..N {
-            count += self.words[i].count_ones() as usize;
-        }
-        count
+        self.words
+            .iter()
+            .map(|word| word.count_ones() as usize)
+            .sum()
     }
 
-    /// The least number from a number on whose bit is set, of so few that each fits.
-    pub(crate) fn next_from(self, from: usize) -> Option<usize>
+    /// Takes out the least number whose bit is set, of so few that each fits.
+    pub(crate) fn take_least(&mut self) -> Option<usize>
         requires { FIRST + 64 * N ≤ 2 ^ 32 }
-        ensures { MatchOption result (NoneFrom (bit self.entry) from) (LeastFrom (bit self.entry) from) }
+        ensures { MatchOption result (((k : ℕ) → bit self.old k ≡ false) × (self.new ≡ self.old)) (λ least. IsLeast (bit self.old) least × ((k : ℕ) → bit self.new k ≡ (bit self.old k && not (k == least)))) }
     {
-        let mut place = from.saturating_sub(FIRST);
-        while place / 64 < N {
-            let rest = self.words[place / 64] >> (place % 64);
-            if rest != 0 {
-                return Some(FIRST + place + rest.trailing_zeros() as usize);
-            }
-            place = (place / 64 + 1) * 64;
-        }
-        None
+        let i = self.first_word()?;
+        let word = self.words[i];
+        self.words[i] = word & (word - 1);
+        Some(FIRST + 64 * i + word.trailing_zeros() as usize)
     }
 }

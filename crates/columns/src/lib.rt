@@ -1,4 +1,4 @@
-// Sets of small numbers in few words: columns of marks, and sets of line numbers.
+// Sets of small numbers in few words: columns of marks, and sets of the numbers from 1 to 128.
 #![tactic(auto)]
 
 mod bits;

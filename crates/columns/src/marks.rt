@@ -1,87 +1,73 @@
 // Columns of marks.
+#![tactic(auto, unfolding(crate::specs::Marks::mark))]
+
 ghost use Rattle.std.specs.Prelude.{◌≡◌, ℕ, false, ◌&&◌, ◌||◌, Decides, ◌==◌, nat_lt};
-ghost use Rattle.columns.specs.Bits.{bit};
 ghost use Rattle.columns.specs.Marks.{mark};
 ghost use Rattle.columns.specs.Passing.{one_up, how_many};
 
 use crate::bits::Bits;
 
 /// A column: the marks 0 to 511, in eight words.
+///
+/// A type of its own beside `Numbers`, so that neither is taken for the other; each method is one call of `Bits`.
 #[derive(Clone, Copy)]
-pub struct Column {
-    bits: Bits<0, 8>,
-}
+pub struct Column(Bits<0, 8>);
 
 impl Column {
     /// Without a mark.
     pub fn none() -> Column
         ensures { (k : ℕ) → mark result k ≡ false }
     {
-        Column::of(Bits::none())
+        Column(Bits::none())
     }
 
     /// The marks of both.
     pub fn and(self, other: Column) -> Column
         ensures { (k : ℕ) → mark result k ≡ (mark self k && mark other k) }
     {
-        Column::of(self.bits().and(other.bits()))
+        Column(self.0.and(other.0))
     }
 
     /// The marks of either.
     pub fn or(self, other: Column) -> Column
         ensures { (k : ℕ) → mark result k ≡ (mark self k || mark other k) }
     {
-        Column::of(self.bits().or(other.bits()))
+        Column(self.0.or(other.0))
     }
 
     /// Every mark one up: there is none at 0, and the mark 511 falls out.
     pub fn shifted(self) -> Column
         ensures { (k : ℕ) → mark result k ≡ (nat_lt k 512 && one_up (mark self) k) }
     {
-        Column::of(self.bits().shifted())
+        Column(self.0.shifted())
     }
 
     /// The mark `k` too. Nothing changes where `k` is past the marks.
     pub fn with(self, k: usize) -> Column
         ensures { (j : ℕ) → mark result j ≡ ((nat_lt k 512 && j == k) || mark self j) }
     {
-        Column::of(self.bits().with(k))
+        Column(self.0.with(k))
     }
 
     /// Whether the mark `k` stands.
     pub fn has(self, k: usize) -> bool
         ensures { result ≡ mark self k }
     {
-        self.bits().has(k)
+        self.0.has(k)
     }
 
     /// Whether no mark stands.
     pub fn is_empty(self) -> bool
         ensures { Decides result ((k : ℕ) → mark self k ≡ false) }
     {
-        self.bits().is_empty()
+        self.0.is_empty()
     }
 
     /// How many marks stand.
     pub fn count(self) -> usize
         ensures { result ≡ how_many (mark self) 512 }
     {
-        self.bits().count()
-    }
-
-    // The column whose marks are these bits.
-    fn of(bits: Bits<0, 8>) -> Column
-        ensures { (k : ℕ) → mark result k ≡ bit bits k }
-    {
-        Column { bits }
-    }
-
-    // The bits, which are the marks.
-    fn bits(self) -> Bits<0, 8>
-        ensures all { bit result ≡ mark self }
-        ensures each { (k : ℕ) → bit result k ≡ mark self k }
-    {
-        self.bits
+        self.0.count()
     }
 }
 

@@ -1,95 +1,78 @@
-// Sets of line numbers.
-ghost use Rattle.std.specs.Prelude.{◌≡◌, ℕ, ◌+◌, ◌≤◌, false, ◌&&◌, ◌||◌, [], ◌∷◌, length, Decides, MatchOption, ◌==◌};
-ghost use Rattle.columns.specs.Bits.{bit};
-ghost use Rattle.columns.specs.Numbers.{member, is_number, rising, rising_from, remaining};
-ghost use Rattle.std.specs.Iterator.{at_most};
+// Sets of small numbers.
+#![tactic(auto, unfolding(crate::specs::Numbers::member))]
+
+ghost use Rattle.std.specs.Prelude.{◌≡◌, ℕ, false, ◌&&◌, ◌||◌, Decides, ◌==◌};
+ghost use Rattle.std.specs.Iterator.{YieldsFirst, item_count};
+ghost use Rattle.columns.specs.Numbers.{member, is_number, rising, to_come};
 
 use crate::bits::Bits;
 
-/// A set of line numbers, which are 1 to 128, in two words.
+/// A set of numbers from 1 to 128, in two words. Line numbers are such, and distances between keywords.
+///
+/// A type of its own beside `Column`, so that neither is taken for the other; each method is one call of `Bits`.
 #[derive(Clone, Copy)]
-pub struct Numbers {
-    bits: Bits<1, 2>,
-}
+pub struct Numbers(Bits<1, 2>);
 
 impl Numbers {
     /// Without a member.
     pub fn none() -> Numbers
         ensures { (n : ℕ) → member result n ≡ false }
     {
-        Numbers::of(Bits::none())
+        Numbers(Bits::none())
     }
 
-    /// Makes the number a member. Nothing changes where it is no line number.
+    /// Makes the number a member. Nothing changes where it is not 1 to 128.
     pub fn insert(&mut self, number: u8)
         ensures { (n : ℕ) → member self.new n ≡ ((is_number number && n == number) || member self.old n) }
     {
-        *self = Numbers::of(self.bits().with(number as usize));
+        self.0 = self.0.with(number as usize);
     }
 
     /// Whether the number is a member.
     pub fn contains(self, number: u8) -> bool
         ensures { result ≡ member self number }
     {
-        self.bits().has(number as usize)
+        self.0.has(number as usize)
     }
 
     /// Whether there is no member.
     pub fn is_empty(self) -> bool
         ensures { Decides result ((n : ℕ) → member self n ≡ false) }
     {
-        self.bits().is_empty()
+        self.0.is_empty()
     }
 
     /// The members, in rising order.
     pub fn members(self) -> Members
-        ensures { remaining result ≡ rising self }
+        ensures { to_come result ≡ rising self }
     {
-        Members { set: self, from: 1 }
+        Members { rest: self }
     }
 
-    // The least member from a number on, which is the first of those from there on.
-    fn next_from(self, from: u8) -> Option<u8>
-        ensures { MatchOption result (rising_from self from ≡ []) (λ n. (n ≤ 128) × (rising_from self from ≡ n ∷ rising_from self (n + 1))) }
+    // Takes out the least member, the first in rising order.
+    fn take_least(&mut self) -> Option<u8>
+        ensures { YieldsFirst rising self.old result self.new }
     {
-        let number = self.bits().next_from(from as usize)?;
+        let number = self.0.take_least()?;
         Some(number as u8)
-    }
-
-    // The set whose members are these bits.
-    fn of(bits: Bits<1, 2>) -> Numbers
-        ensures { (n : ℕ) → member result n ≡ bit bits n }
-    {
-        Numbers { bits }
-    }
-
-    // The bits, which are the members.
-    fn bits(self) -> Bits<1, 2>
-        ensures all { bit result ≡ member self }
-        ensures each { (n : ℕ) → bit result n ≡ member self n }
-    {
-        self.bits
     }
 }
 
 /// An iterator over the members of a set, in rising order.
 #[derive(Drop)]
 pub struct Members {
-    set: Numbers,
-    from: u8,
+    rest: Numbers,
 }
 
 impl Iterator for Members {
     type Item = u8;
 
-    ghost next_gives = { λ s r t. MatchOption r (remaining s ≡ []) (λ n. remaining s ≡ n ∷ remaining t) };
+    ghost next_gives = { YieldsFirst to_come };
 
-    ghost remaining = { λ s. at_most (length (remaining s)) };
+    ghost remaining = { item_count to_come };
 
     fn next(&mut self) -> Option<u8> {
-        let number = self.set.next_from(self.from)?;
-        self.from = number + 1;
-        Some(number)
+        self.rest.take_least()
     }
 }
 

@@ -1,5 +1,6 @@
 -- One tick of the ring.
-use Rattle.std.proofs.Common.{◌≡◌, ℕ, zero, suc, ◌+◌, ◌-◌, ◌%◌, ◌<◌, ◌≤◌, Bool, true, false, ◌&&◌, ◌||◌, ltb, ◌≢◌, List, ◌∷◌, length, drop, set, sym, refl, ap, ◌∙◌, ⊎_elim, arith}
+use Rattle.std.proofs.Common.{◌≡◌, ℕ, zero, suc, ◌+◌, ◌%◌, ◌<◌, ◌≤◌, Bool, true, false, ◌&&◌, ◌||◌, ltb, ◌≢◌, List, ◌∷◌, length, drop, set, sym, ap, ◌∙◌, ⊎_elim, arith}
+use Rattle.std.proofs.Math.Bool.{and_comm, or_comm}
 use Rattle.std.proofs.lemmas.List.{get_or-set_same, get_or-set_other}
 use Rattle.std.proofs.lemmas.Bool.{cases_Bool, cases_lt, lt-ltb, both_ways}
 use Rattle.book.specs.declared.rows.LineRow.{LineRow}
@@ -13,28 +14,16 @@ use Rattle.lookback.specs.Prefixes.{opens, reach, prefix_ends}
 use Rattle.lookback.specs.Represented.{Represents, looked_back, slot}
 use Rattle.lookback.proofs.Backs.{shown}
 
-swapped : (a b : Bool) → (a && b) ≡ (b && a)
-swapped true true = refl
-swapped true false = refl
-swapped false true = refl
-swapped false false = refl
-
-or_swapped : (a b : Bool) → (a || b) ≡ (b || a)
-or_swapped true true = refl
-or_swapped true false = refl
-or_swapped false true = refl
-or_swapped false false = refl
-
 module _ (l : Lookback) (lines : List LineRow) (keywords : List KeywordRow) (past : List (ℕ → Bool)) (r : Represents l lines keywords past) (e : ℕ → Bool) where
   -- the newest column, mark by mark
   pub newest : (none : (k : ℕ) → length keywords ≤ k → e k ≡ false) → (seen : ℕ → Bool) → ((k : ℕ) → seen k ≡ looked_back l ((l.newest + 1) % 128) k) → (first : ℕ → Bool) → ((k : ℕ) → k < 512 → first k ≡ opens lines k)
       → (k : ℕ) → k < 512 → (((ltb k 512 && one_up seen k) || first k) && e k) ≡ prefix_ends lines keywords (e ∷ past) k
   unfolding prefix_ends
-  newest none seen s first f zero h = ap (λ b. b && e 0) (f 0 h) ∙ swapped (opens lines 0) (e 0)
+  newest none seen s first f zero h = ap (λ b. b && e 0) (f 0 h) ∙ and_comm (opens lines 0) (e 0)
   newest none seen s first f (suc j) h =
       ap (λ b. ((b && seen j) || first (suc j)) && e (suc j)) (lt-ltb (suc j) 512 h)
       ∙ ap (λ b. (seen j || b) && e (suc j)) (f (suc j) h)
-      ∙ swapped (seen j || opens lines (suc j)) (e (suc j))
+      ∙ and_comm (seen j || opens lines (suc j)) (e (suc j))
       ∙ ⊎_elim
       (λ ends. ap (λ b. e (suc j) && b) (reached (cases_Bool (opens lines (suc j))) ends))
       (λ off. ap (λ b. b && (seen j || opens lines (suc j))) off ∙ sym (ap (λ b. b && (opens lines (suc j) || prefix_ends lines keywords (drop (reach keywords (suc j)) (e ∷ past)) j)) off))
@@ -45,7 +34,7 @@ module _ (l : Lookback) (lines : List LineRow) (keywords : List KeywordRow) (pas
 
       reached : mathlib.Core.Logic.◌⊎◌ (opens lines (suc j) ≡ true) (opens lines (suc j) ≡ false) → e (suc j) ≡ true → (seen j || opens lines (suc j)) ≡ (opens lines (suc j) || prefix_ends lines keywords (drop (reach keywords (suc j)) (e ∷ past)) j)
       reached which ends =
-          or_swapped (seen j) (opens lines (suc j))
+          or_comm (seen j) (opens lines (suc j))
           ∙ ⊎_elim
           (λ y. ap (λ b. b || seen j) y ∙ sym (ap (λ b. b || prefix_ends lines keywords (drop (reach keywords (suc j)) (e ∷ past)) j) y))
           (λ z. ap (λ b. opens lines (suc j) || b) (s j ∙ shown l lines keywords past r e j (omega arith) (in_book ends) z))

@@ -1,9 +1,10 @@
 -- What links say of a book's keywords.
-use Rattle.std.specs.Prelude.{◌≡◌, ℕ, suc, ◌%◌, ◌<◌, ◌≤◌, Bool, false, not, ◌&&◌, List, ◌==◌, nat_lt, slice_index, slice_index_or}
+use Rattle.std.specs.Prelude.{◌≡◌, ℕ, suc, ◌%◌, ◌<◌, Bool, true, false, not, ◌&&◌, List, ◌==◌, nat_lt, slice_index_or}
 use Rattle.book.specs.declared.rows.LineRow.{LineRow}
 use Rattle.book.specs.declared.rows.KeywordRow.{KeywordRow}
 use Rattle.columns.specs.declared.marks.Column.{Column}
 use Rattle.columns.specs.Marks.{mark, blank}
+use Rattle.columns.specs.Numbers.{member}
 use Rattle.lookback.specs.declared.links.Links.{Links}
 use Rattle.lookback.specs.Prefixes.{opens, reach}
 
@@ -19,5 +20,4 @@ follows_at lines keywords n d k = nat_lt (suc k) n && (not (opens lines (suc k))
 pub record LinkedTo (links : Links) (lines : List LineRow) (keywords : List KeywordRow) (n : ℕ) : Type 0 where
   pub firsts : (k : ℕ) → k < 512 → mark links.firsts k ≡ opens lines k
   pub followed : (d : ℕ) → d < 128 → (k : ℕ) → k < 512 → mark_at links.follow d k ≡ follows_at lines keywords n d k
-  pub listed : (k : ℕ) → suc k < n → opens lines (suc k) ≡ false → (i : ℕ) × (i < links.used) × (slice_index links.near i ≡ reach keywords (suc k))
-  pub proper : (i : ℕ) → i < links.used → (1 ≤ slice_index links.near i) × (slice_index links.near i ≤ 128)
+  pub listed : (k : ℕ) → suc k < n → opens lines (suc k) ≡ false → member links.near (reach keywords (suc k)) ≡ true

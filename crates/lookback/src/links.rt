@@ -1,7 +1,8 @@
 // Which keyword follows which, and how far apart they end.
-ghost use Rattle.std.specs.Prelude.{◌≡◌, ◌≤◌, length};
+ghost use Rattle.std.specs.Prelude.{◌≡◌, length};
 
 use columns::marks::Column;
+use columns::numbers::Numbers;
 
 pub mod linking;
 
@@ -13,8 +14,6 @@ pub struct Links {
     // for each distance, by its remainder by 128: the keywords that another follows at that distance
     pub(crate) follow: [Column; 128],
     // the distances in use
-    pub(crate) near: [u8; 512],
-    pub(crate) used: usize,
-    ghost whole: { (length follow ≡ 128) × (length near ≡ 512) },
-    ghost few: { used ≤ 512 },
+    pub(crate) near: Numbers,
+    ghost whole: { length follow ≡ 128 },
 }

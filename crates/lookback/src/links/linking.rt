@@ -1,5 +1,5 @@
 // How links are made of a book's rows.
-ghost use Rattle.std.specs.Prelude.{◌≡◌, ℕ, suc, ◌+◌, ◌<◌, ◌≤◌, Bool, false, List, length};
+ghost use Rattle.std.specs.Prelude.{◌≡◌, ℕ, ◌+◌, ◌<◌, ◌≤◌, List, length};
 ghost use Rattle.book.specs.Proper.{AllFit, Fits};
 ghost use Rattle.columns.specs.Marks.{mark};
 ghost use Rattle.lookback.specs.Prefixes.{opens, reach};
@@ -8,6 +8,7 @@ ghost use Rattle.lookback.specs.Linked.{LinkedTo};
 use crate::links::Links;
 use book::rows::{KeywordRow, LineRow};
 use columns::marks::Column;
+use columns::numbers::Numbers;
 
 // The first keywords of lines.
 fn first_keywords(lines: &[LineRow]) -> Column
@@ -20,43 +21,18 @@ fn first_keywords(lines: &[LineRow]) -> Column
     firsts
 }
 
+// Which keywords the links are of is said by each function, since the links do not hold the keywords.
 impl Links {
-    // No keyword follows another.
-    fn none(lines: &[LineRow]) -> Links
-        ensures links { (keywords : List KeywordRow) → LinkedTo result lines.now keywords 1 }
-        ensures used { result.used ≡ 0 }
-    {
-        let none = Column::none();
-        Links {
-            firsts: first_keywords(lines),
-            follow: [none; 128],
-            near: [0; 512],
-            used: 0,
-        }
-    }
-
-    // Another keyword follows that one at a distance.
-    fn follow(&mut self, before: usize, distance: u8)
-        requires { (self.old.used ≤ before) × (before < 511) × (1 ≤ distance) × (distance ≤ 128) }
-        ensures links { (lines : List LineRow) (keywords : List KeywordRow) → LinkedTo self.old lines keywords (before + 1) → AllFit keywords → before + 1 < length keywords → opens lines (before + 1) ≡ false → reach keywords (before + 1) ≡ distance → LinkedTo self.new lines keywords (before + 2) }
-        ensures used { self.new.used ≤ before + 1 }
-    {
-        let at = distance as usize % 128;
-        let old = self.follow[at];
-        let used = self.used;
-        self.near[used] = distance;
-        self.used = used + usize::from(old.is_empty());
-        self.follow[at] = old.with(before);
-    }
-
     // One more keyword: it opens its line, or follows the one before it.
-    fn link(&mut self, keyword: usize, row: KeywordRow)
-        requires { (self.old.used < keyword) × (keyword < 512) × Fits row }
-        ensures links { (lines : List LineRow) (keywords : List KeywordRow) → LinkedTo self.old lines keywords keyword → AllFit keywords → keyword < length keywords → reach keywords keyword ≡ row.gap + row.length → LinkedTo self.new lines keywords (keyword + 1) }
-        ensures used { self.new.used ≤ keyword }
+    fn link(&mut self, before: usize, row: KeywordRow)
+        requires { (before < 511) × Fits row }
+        ensures { (lines : List LineRow) (keywords : List KeywordRow) → LinkedTo self.old lines keywords (before + 1) → reach keywords (before + 1) ≡ row.gap + row.length → LinkedTo self.new lines keywords (before + 2) }
     {
-        if !self.firsts.has(keyword) {
-            self.follow(keyword - 1, row.gap + row.length);
+        if !self.firsts.has(before + 1) {
+            let distance = row.gap + row.length;
+            let at = distance as usize % 128;
+            self.near.insert(distance);
+            self.follow[at] = self.follow[at].with(before);
         }
     }
 
@@ -66,9 +42,13 @@ impl Links {
         requires few { length keywords.now ≤ 512 }
         ensures { LinkedTo result lines.now keywords.now (length keywords.now) }
     {
-        let mut links = Links::none(lines);
-        for keyword in 1..keywords.len() {
-            links.link(keyword, keywords[keyword]);
+        let mut links = Links {
+            firsts: first_keywords(lines),
+            follow: [Column::none(); 128],
+            near: Numbers::none(),
+        };
+        for (before, row) in keywords.iter().skip(1).enumerate() {
+            links.link(before, *row);
         }
         links
     }

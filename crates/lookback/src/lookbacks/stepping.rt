@@ -30,10 +30,9 @@ impl Lookback {
     fn over(links: Links) -> Lookback
         ensures { (lines : List LineRow) (keywords : List KeywordRow) → LinkedTo links lines keywords (length keywords) → AllFit keywords → Represents result lines keywords [] }
     {
-        let none = Column::none();
         Lookback {
             links,
-            ring: [none; 128],
+            ring: [Column::none(); 128],
             newest: 0,
         }
     }
@@ -44,10 +43,10 @@ impl Lookback {
         ensures { (k : ℕ) → mark result k ≡ looked_back self.now from k }
     {
         let mut seen = Column::none();
-        for i in 0..self.links.used {
-            let distance = self.links.near[i] as usize;
+        for distance in self.links.near.members() {
+            let distance = distance as usize;
             let column = self.ring[(from + 256 - distance) % 128];
-            seen = column.and(self.links.follow[distance % 128]).or(seen);
+            seen = seen.or(column.and(self.links.follow[distance % 128]));
         }
         seen
     }
@@ -84,8 +83,7 @@ impl Lookback {
     pub fn clear(&mut self)
         ensures { (lines : List LineRow) (keywords : List KeywordRow) (past : List (ℕ → Bool)) → Represents self.old lines keywords past → Represents self.new lines keywords [] }
     {
-        let fresh = Lookback::over(self.links);
-        *self = fresh;
+        *self = Lookback::over(self.links);
     }
 
     /// How many columns there are. Packed side by side in them, the marks of one line never depend on another line's.

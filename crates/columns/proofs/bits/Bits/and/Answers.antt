@@ -1,12 +1,8 @@
-use Rattle.std.proofs.Common.{◌&&◌, refl, arith}
+use Rattle.std.proofs.Common.{◌&&◌, refl, rules}
 use lib.Bits.{bit_and}
-use lib.ListN.{length-replicate}
 use Rattle.columns.proofs.Digits.{digit_and}
 use Rattle.columns.proofs.Places.{bits_each}
 use Rattle.columns.proofs.bits.Bits.and.Goals as goal
 
-pub loop-i-init : goal.loop-i-init
-loop-i-init g c = (length-replicate g.row.N 0, λ k h. absurd (omega arith))
-
 pub returns : goal.returns
-returns g c = bits_each bit_and ◌&&◌ digit_and refl _ _ _ (λ i h. c.loop-i.invariant.1 i (omega arith))
+returns g c = bits_each bit_and ◌&&◌ digit_and refl _ _ _ (λ i h. let e = c.joined.ensures i h in search rules)

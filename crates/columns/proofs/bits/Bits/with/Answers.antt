@@ -7,5 +7,5 @@ returns-in-Some g c =
     let p = c.in-Some.ensures in
     λ k. rw p.1 (bits_with _ c.in-Some.place (search rules) p.0 k)
 
-pub returns-in-None : goal.returns-in-None
-returns-in-None g c = λ k. simp c.in-None.ensures
+pub returns-in_default : goal.returns-in_default
+returns-in_default g c = let out = c.in_default.ensures in λ k. rw out

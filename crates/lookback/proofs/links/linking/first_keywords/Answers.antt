@@ -1,6 +1,6 @@
-use Rattle.std.proofs.Common.{◌≡◌, ℕ, ◌<◌, Bool, true, false, ◌&&◌, ◌||◌, eqb, ltb, map, get_or, take, pos, sym, ap, ◌∙◌, ⊎_elim, arith}
+use Rattle.std.proofs.Common.{◌≡◌, ℕ, ◌<◌, Bool, ◌&&◌, ◌||◌, eqb, ltb, map, get_or, take, pos, sym, ap, ◌∙◌, arith}
 use Rattle.std.proofs.lemmas.List.{map_more, take_all}
-use Rattle.std.proofs.lemmas.Bool.{cases_eq, eq-eqb, ne_eqb, lt-ltb, and_right}
+use Rattle.std.proofs.lemmas.Bool.Decides.{nat_tests}
 use Rattle.book.specs.declared.rows.LineRow.{LineRow}
 use Rattle.book.specs.Book.{among}
 use Rattle.book.proofs.Amongs.{among_push}
@@ -9,11 +9,7 @@ use Rattle.lookback.proofs.links.linking.first_keywords.Goals as goal
 
 -- a mark below 512 that is put in
 put : (f k : ℕ) (old : Bool) → k < 512 → ((ltb f 512 && eqb k f) || old) ≡ (eqb f k || old)
-put f k old h =
-    ⊎_elim
-    (λ same. ap (λ b. b || old) (ap (λ b. ltb f 512 && b) (eq-eqb k f same) ∙ ap (λ b. b && true) (lt-ltb f 512 (omega arith)) ∙ sym (eq-eqb f k (sym same))))
-    (λ other. ap (λ b. b || old) (and_right (ltb f 512) (eqb k f) (ne_eqb k f other) ∙ sym (ne_eqb f k (λ e. other (sym e)))))
-    (cases_eq k f)
+put f k old h = grind (arith, nat_tests)
 
 pub loop-line-preserved : goal.loop-line-preserved
 loop-line-preserved c k h =

@@ -11,7 +11,7 @@ returns c lines keywords linked fit = record {
   linked = linked;
   fit = fit;
   seen = λ ago h k small.
-      ap (λ x. mark x k) (get_or-replicate 128 (slot 0 ago) c.none-none.result blank (omega arith))
-      ∙ c.none-none.ensures k
+      ap (λ x. mark x k) (get_or-replicate 128 (slot 0 ago) c.none.result blank (omega arith))
+      ∙ c.none.ensures k
       ∙ sym (ap (λ p. prefix_ends lines keywords p k) (drop_none ago) ∙ none_ended lines keywords k);
 }

@@ -1,7 +1,0 @@
-use Rattle.std.proofs.Common.{refl}
-use Rattle.columns.specs.Marks.{mark}
-use Rattle.columns.proofs.marks.Column.bits.Goals as goal
-
-pub returns : goal.returns
-unfolding mark
-returns c = record { all = refl; each = λ k. refl }
