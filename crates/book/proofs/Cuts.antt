@@ -1,10 +1,15 @@
 -- Lists cut into parts, and parts that lie one after another.
 use Rattle.std.proofs.Common.{◌≡◌, ℕ, suc, ◌+◌, ◌≤◌, true, eqb, List, [], ◌∷◌, ◌++◌, map, length, take, drop, sym, refl, ap, ◌∙◌, append_assoc, arith, take-add}
-use Rattle.std.specs.List.{flat_map}
+use Rattle.std.specs.List.{flat_map, sum_by}
+use Rattle.std.proofs.lemmas.List.Sums.{sum_by-cons}
 use Rattle.std.proofs.lemmas.List.{length-take-le, length-drop, take-take, take_at, drop_at, drop-take, drop-drop}
 use Rattle.std.proofs.lemmas.Bool.{and_parts, and_from, eqb-true, eq-eqb}
 use Rattle.book.specs.Cutting.{total, cut, filled}
 use Rattle.book.specs.Layout.{laid}
+
+pub total_is_sum : (ns : List ℕ) → sum_by (λ n. n) ns ≡ total ns
+total_is_sum [] = refl
+total_is_sum (n ∷ ns) = sum_by-cons (λ m. m) n ns ∙ ap (λ t. n + t) (total_is_sum ns)
 
 pub total-append : (ms ns : List ℕ) → total (ms ++ ns) ≡ total ms + total ns
 total-append [] ns = omega arith

@@ -1,12 +1,11 @@
 // How an open book takes lines.
-ghost use Rattle.std.specs.Prelude.{◌≡◌, ℕ, ◌+◌, ◌<◌, ◌≤◌, true, false, ◌&&◌, List, [], ◌∷◌, ◌++◌, length, OnErr, OnOk, ◌==◌, slice_index};
-ghost use Rattle.std.specs.List.{list_all};
-ghost use Rattle.book.specs.Book.{Book, has_number};
+ghost use Rattle.std.specs.Prelude.{◌≡◌, ℕ, ◌+◌, ◌<◌, ◌≤◌, true, false, ◌&&◌, List, [], ◌∷◌, ◌++◌, length, ◌==◌, slice_index};
+ghost use Rattle.std.specs.List.{list_all, list_any};
+ghost use Rattle.book.specs.Book.{has_number};
 ghost use Rattle.book.specs.Cutting.{total, filled};
 ghost use Rattle.book.specs.Admitted.{Admitted, Writable, lines_in, keywords_in, line_row};
-ghost use Rattle.book.specs.Entering.{request, counts_ok, lengths_ok, room_ok, judged, enter_answer, entered, cells_after};
-ghost use Rattle.book.specs.Outcomes.{Taken, Refused};
-ghost use Rattle.book.specs.Rows.{line_rows, keyword_rows_from};
+ghost use Rattle.book.specs.Entering.{request, counts_ok, lengths_ok, has_room, judged, enter_answer, entered, cells_after};
+ghost use Rattle.book.specs.Rows.{keyword_rows_from};
 ghost use Rattle.book.specs.Rules.{within, points_ok};
 ghost use Rattle.book.specs.Stored.{held, open_book, sealed_book, places};
 
@@ -18,75 +17,35 @@ use crate::sealed::SealedBook;
 use cells::kinds::Cell;
 use refusals::Refusal;
 
-const NO_LINE: LineRow = LineRow {
-    number: 0,
-    points: 0,
-    lag: 0,
-    first: 0,
-    keywords: 0,
-};
-
-const NO_KEYWORD: KeywordRow = KeywordRow {
-    gap: 0,
-    first: 0,
-    length: 0,
-};
-
-// Whether a number lies from a lowest to a highest, ends counted.
-fn is_within(number: usize, lowest: usize, highest: usize) -> bool
-    ensures { result ≡ within lowest highest number }
-{
-    lowest <= number && number <= highest
-}
-
-// Whether each number does.
-fn all_within(numbers: &[u16], lowest: usize, highest: usize) -> bool
+// Whether each of some numbers lies from a lowest to a highest, ends counted.
+fn all_within(numbers: &[u16], lowest: u16, highest: u16) -> bool
     ensures { result ≡ list_all (within lowest highest) numbers.now }
 {
-    for number in numbers {
-        if !is_within(*number as usize, lowest, highest) {
-            return false;
-        }
-    }
-    true
+    numbers
+        .iter()
+        .all(|number| (lowest..=highest).contains(number))
 }
 
 // Whether numbers add up to a sum.
 fn add_up_to(numbers: &[u16], sum: usize) -> bool
+    requires { length numbers.now ≤ 16 }
     ensures { result ≡ (total numbers.now == sum) }
 {
-    let mut left = sum;
-    for number in numbers {
-        if *number as usize > left {
-            return false;
-        }
-        left -= *number as usize;
-    }
-    left == 0
+    numbers.iter().map(|n| usize::from(*n)).sum::<usize>() == sum
 }
 
-// Whether one of the lines has a number, whichever book the rows tell.
-pub(crate) fn any_has<C>(lines: &[LineRow], number: u16) -> bool
-    ensures { (b : Book C) → lines.now ≡ line_rows b → result ≡ has_number number b }
+// Whether one of the lines has a number.
+pub(crate) fn any_has(lines: &[LineRow], number: u16) -> bool
+    ensures { result ≡ list_any (λ l. l.number == number) lines.now }
 {
-    for line in lines {
-        if line.number as u16 == number {
-            return true;
-        }
-    }
-    false
+    lines.iter().any(|line| u16::from(line.number) == number)
 }
 
-// The refusal of the first rule that does not hold.
-fn first_broken(rules: &[(bool, Refusal)]) -> Result<(), Refusal>
-    ensures { result ≡ judged rules.now }
+// Refuses where a rule does not hold.
+fn ensure(holds: bool, refusal: Refusal) -> Result<(), Refusal>
+    ensures { result ≡ judged ((holds, refusal) ∷ []) }
 {
-    for (holds, refusal) in rules {
-        if !*holds {
-            return Err(*refusal);
-        }
-    }
-    Ok(())
+    holds.then_some(()).ok_or(refusal)
 }
 
 // The gap before a keyword of a line: none before the first.
@@ -121,18 +80,19 @@ impl<C: Cell> Entry<'_, C> {
         ensures { result ≡ counts_ok (request self.now) }
     {
         let keywords = self.lengths.len();
-        is_within(keywords, 1, 16) && self.gaps.len() == keywords - 1
+        (1..=16).contains(&keywords) && self.gaps.len() == keywords - 1
     }
 
     // Whether the points are within their limits.
     fn points_fit(&self) -> bool
         ensures { result ≡ points_ok self.now.points }
     {
-        -999 <= self.points && self.points <= 999
+        (-999..=999).contains(&self.points)
     }
 
     // Whether the keywords have 1 to 16 cells each and make up the cells given.
     fn lengths_match(&self) -> bool
+        requires { length self.now.lengths.now ≤ 16 }
         ensures { result ≡ lengths_ok (request self.now) }
     {
         all_within(self.lengths, 1, 16) && add_up_to(self.lengths, self.cells.len())
@@ -159,25 +119,11 @@ impl Ledger {
         ensures counts { result.counts ≡ record { lines = 0; keywords = 0; cells = 0 } }
         ensures book { (memory : List C) → held result memory ≡ [] }
     {
-        let counts = Counts {
-            lines: 0,
-            keywords: 0,
-            cells: 0,
-        };
         Ledger {
-            lines: [NO_LINE; 128],
-            keywords: [NO_KEYWORD; 512],
-            counts,
+            lines: [LineRow::default(); 128],
+            keywords: [KeywordRow::default(); 512],
+            counts: Counts::default(),
         }
-    }
-
-    // Whether there is room for so many keywords and cells more, over a memory of so many places.
-    fn has_room(&self, memory: usize, keywords: usize, cells: usize) -> bool
-        requires { self.now.counts.cells ≤ memory }
-        ensures { result ≡ room_ok memory (self.now.counts.keywords + keywords) (self.now.counts.cells + cells) }
-    {
-        let free = memory.min(1023) - self.counts.cells;
-        keywords <= 512 - self.counts.keywords && cells <= free
     }
 
     // The line goes behind the others.
@@ -224,34 +170,30 @@ impl<'a, C: Cell> OpenBook<'a, C> {
         ensures { result ≡ has_number number (open_book self.now) }
     {
         let count = self.ledger.counts.lines;
-        any_has::<C>(&self.ledger.lines[0..count], number)
+        any_has(&self.ledger.lines[0..count], number)
     }
 
-    // Whether the book takes an entry, and what book and memory are then.
-    fn judge(&self, entry: &Entry<'_, C>) -> Result<(), Refusal>
-        ensures answer { result ≡ enter_answer (open_book self.now) (places self.now) (request entry.now) }
-        ensures taken { OnOk result (Taken self.now (request entry.now)) }
-        ensures refused { OnErr result (Refused self.now (request entry.now)) }
+    // Whether there is room for the keywords and cells of an entry.
+    fn has_room(&self, entry: &Entry<'_, C>) -> bool
+        ensures { result ≡ has_room (open_book self.now) (places self.now) (request entry.now) }
     {
-        let memory = self.cells.len();
-        let rules = [
-            (
-                is_within(entry.number as usize, 1, 128),
-                Refusal::NumberOutOfRange,
-            ),
-            (!self.has_number(entry.number), Refusal::NumberTaken),
-            (entry.points_fit(), Refusal::PointsOutOfRange),
-            (entry.lag <= 63, Refusal::LagTooLong),
-            (entry.counts_match(), Refusal::KeywordCount),
-            (entry.lengths_match(), Refusal::KeywordLength),
-            (all_within(entry.gaps, 0, 112), Refusal::GapTooLong),
-            (
-                self.ledger
-                    .has_room(memory, entry.lengths.len(), entry.cells.len()),
-                Refusal::BookFull,
-            ),
-        ];
-        first_broken(&rules)
+        let keywords = 512 - self.ledger.counts.keywords;
+        let cells = self.cells.len().min(1023) - self.ledger.counts.cells;
+        entry.lengths.len() <= keywords && entry.cells.len() <= cells
+    }
+
+    // Whether the book takes an entry: the refusal of the first rule that it breaks.
+    fn judge(&self, entry: &Entry<'_, C>) -> Result<(), Refusal>
+        ensures { result ≡ enter_answer (open_book self.now) (places self.now) (request entry.now) }
+    {
+        ensure((1..=128).contains(&entry.number), Refusal::NumberOutOfRange)?;
+        ensure(!self.has_number(entry.number), Refusal::NumberTaken)?;
+        ensure(entry.points_fit(), Refusal::PointsOutOfRange)?;
+        ensure(entry.lag <= 63, Refusal::LagTooLong)?;
+        ensure(entry.counts_match(), Refusal::KeywordCount)?;
+        ensure(entry.lengths_match(), Refusal::KeywordLength)?;
+        ensure(all_within(entry.gaps, 0, 112), Refusal::GapTooLong)?;
+        ensure(self.has_room(entry), Refusal::BookFull)
     }
 
     // The cells go into the next free places.
@@ -262,14 +204,12 @@ impl<'a, C: Cell> OpenBook<'a, C> {
         ensures ledger { self.new.ledger ≡ self.old.ledger }
     {
         let at = self.ledger.counts.cells;
-        for i in 0..cells.len() {
-            self.cells[at + i] = cells[i];
-        }
+        self.cells[at..at + cells.len()].copy_from_slice(cells);
     }
 
     // The line goes behind the others.
     fn place(&mut self, entry: &Entry<'_, C>)
-        requires { Taken self.old (request entry.now) }
+        requires { enter_answer (open_book self.old) (places self.old) (request entry.now) ≡ Ok tt }
         ensures book { open_book self.new ≡ entered (open_book self.old) (places self.old) (request entry.now) }
         ensures memory { self.new.cells.now ≡ cells_after (open_book self.old) self.old.cells.now (request entry.now) }
         ensures lender { self.new.cells.ghost_name ≡ self.old.cells.ghost_name }

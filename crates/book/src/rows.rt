@@ -1,7 +1,7 @@
 // What a book tells of its lines and keywords: plain rows.
 
 /// A line: its keywords are `keywords` rows of the book's table of keywords, from `first` on.
-#[derive(Clone, Copy)]
+#[derive(Clone, Copy, PartialEq, Eq, Debug, Default)]
 pub struct LineRow {
     pub number: u8,
     pub points: i32,
@@ -12,7 +12,7 @@ pub struct LineRow {
 
 /// A keyword: its cells are `length` places of the book, from `first` on.
 /// The gap is the one before it, 0 before the first keyword of a line.
-#[derive(Clone, Copy)]
+#[derive(Clone, Copy, PartialEq, Eq, Debug, Default)]
 pub struct KeywordRow {
     pub gap: u8,
     pub first: u16,
@@ -20,7 +20,7 @@ pub struct KeywordRow {
 }
 
 /// How much a book has of each.
-#[derive(Clone, Copy)]
+#[derive(Clone, Copy, PartialEq, Eq, Debug, Default)]
 pub struct Counts {
     pub lines: usize,
     pub keywords: usize,

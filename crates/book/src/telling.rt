@@ -55,6 +55,6 @@ impl<'a, C: Cell> SealedBook<'a, C> {
     pub fn has_number(&self, number: u16) -> bool
         ensures { result ≡ has_number number (sealed_book self.now) }
     {
-        any_has::<C>(self.lines(), number)
+        any_has(self.lines(), number)
     }
 }

@@ -1,7 +1,7 @@
-use Rattle.std.proofs.Common.{refl}
+use Rattle.std.proofs.Common.{rules}
 use Rattle.book.specs.Stored.{held}
 use Rattle.book.proofs.ledgers.Ledger.new.Goals as goal
 
-pub returns : goal.returns
+pub returns-clause-book : goal.returns-clause-book
 unfolding held
-returns g c = record { counts = refl; book = λ memory. refl }
+returns-clause-book g c = search rules
