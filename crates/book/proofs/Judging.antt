@@ -27,8 +27,8 @@ pub taken : {C : Type 0} (b : Book C) (m : List C) (q : Request C) → enter_ans
     → (entered b (length m) q ≡ b ++ line_of q ∷ []) × (cells_after b m q ≡ filled m (length (all_cells b)) q.cells)
 taken b m q e = (ap (λ a. cond (is_ok a) (b ++ line_of q ∷ []) b) e, ap (λ a. cond (is_ok a) (filled m (length (all_cells b)) q.cells) m) e)
 
-module _ {C : Type 0} (b : Ledger) (m : List C) (q : Request C) (room : b.counts.cells ≤ length m) (e : enter_answer (held b m) (length m) q ≡ Ok tt) where
-  pub admitted : Admitted b q × (b.counts.cells + length q.cells ≤ length m)
+module _ {C : Type 0} (b : Ledger) (m : List C) (q : Request C) (room : b.cell_count ≤ length m) (e : enter_answer (held b m) (length m) q ≡ Ok tt) where
+  pub admitted : Admitted b q × (b.cell_count + length q.cells ≤ length m)
   admitted =
       let p = all_hold (rules (held b m) (length m) q) e in
       let counts = and_parts (count_ok (length q.lengths)) _ p.1.1.1.1.0 in

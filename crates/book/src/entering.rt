@@ -1,19 +1,20 @@
 // How an open book takes lines.
-ghost use Rattle.std.specs.Prelude.{◌≡◌, ℕ, ◌+◌, ◌<◌, ◌≤◌, true, false, ◌&&◌, List, [], ◌∷◌, ◌++◌, length, ◌==◌, slice_index};
+ghost use Rattle.std.specs.Prelude.{◌≡◌, ℕ, ◌+◌, ◌<◌, ◌≤◌, true, false, not, ◌&&◌, [], ◌∷◌, ◌++◌, length, ◌==◌, slice_index};
 ghost use Rattle.std.specs.List.{list_all, list_any};
 ghost use Rattle.book.specs.Book.{has_number};
 ghost use Rattle.book.specs.Cutting.{total, filled};
-ghost use Rattle.book.specs.Admitted.{Admitted, Writable, lines_in, keywords_in, line_row};
+ghost use Rattle.book.specs.Admitted.{Admitted, Writable, line_row};
 ghost use Rattle.book.specs.Entering.{request, counts_ok, lengths_ok, has_room, judged, enter_answer, entered, cells_after};
 ghost use Rattle.book.specs.Rows.{keyword_rows_from};
 ghost use Rattle.book.specs.Rules.{within, points_ok};
-ghost use Rattle.book.specs.Stored.{held, open_book, sealed_book, places};
+ghost use Rattle.book.specs.Stored.{open_book, sealed_book, places};
 
 use crate::entries::Entry;
 use crate::ledgers::Ledger;
 use crate::open::OpenBook;
-use crate::rows::{Counts, KeywordRow, LineRow};
+use crate::rows::{KeywordRow, LineRow};
 use crate::sealed::SealedBook;
+use arrayvec::ArrayVec;
 use cells::kinds::Cell;
 use refusals::Refusal;
 
@@ -34,13 +35,6 @@ fn add_up_to(numbers: &[u16], sum: usize) -> bool
     numbers.iter().map(|n| usize::from(*n)).sum::<usize>() == sum
 }
 
-// Whether one of the lines has a number.
-pub(crate) fn any_has(lines: &[LineRow], number: u16) -> bool
-    ensures { result ≡ list_any (λ l. l.number == number) lines.now }
-{
-    lines.iter().any(|line| u16::from(line.number) == number)
-}
-
 // Refuses where a rule does not hold.
 fn ensure(holds: bool, refusal: Refusal) -> Result<(), Refusal>
     ensures { result ≡ judged ((holds, refusal) ∷ []) }
@@ -56,21 +50,20 @@ fn gap_before(gaps: &[u16], keyword: usize) -> u16
     if keyword == 0 { 0 } else { gaps[keyword - 1] }
 }
 
-// Puts down a row for each keyword, from a row on, the cells from a place on.
-fn write_keywords(rows: &mut [KeywordRow], from: usize, place: usize, lengths: &[u16], gaps: &[u16])
-    requires { Writable rows.old from place lengths.now gaps.now }
-    ensures { rows.new ≡ filled rows.old from (keyword_rows_from place (0 ∷ gaps.now) lengths.now) }
+// Puts a row for each keyword behind the others, the cells from a place on.
+fn push_keywords(rows: &mut ArrayVec<KeywordRow, 512>, place: usize, lengths: &[u16], gaps: &[u16])
+    requires { Writable (length rows.old.items) place lengths.now gaps.now }
+    ensures { rows.new.items ≡ rows.old.items ++ keyword_rows_from place (0 ∷ gaps.now) lengths.now }
 {
     let mut first = place;
-    for i in 0..lengths.len() {
+    for (i, length) in lengths.iter().enumerate() {
         let gap = gap_before(gaps, i);
-        let length = lengths[i];
-        rows[from + i] = KeywordRow {
+        rows.push(KeywordRow {
             gap: gap as u8,
             first: first as u16,
-            length: length as u8,
-        };
-        first += length as usize;
+            length: *length as u8,
+        });
+        first += usize::from(*length);
     }
 }
 
@@ -115,42 +108,43 @@ impl<C: Cell> Entry<'_, C> {
 
 impl Ledger {
     // Tables with nothing in them.
-    fn new<C>() -> Ledger
-        ensures counts { result.counts ≡ record { lines = 0; keywords = 0; cells = 0 } }
-        ensures book { (memory : List C) → held result memory ≡ [] }
+    fn new() -> Ledger
+        ensures lines { result.lines.items ≡ [] }
+        ensures keywords { result.keywords.items ≡ [] }
+        ensures cells { result.cell_count ≡ 0 }
     {
         Ledger {
-            lines: [LineRow::default(); 128],
-            keywords: [KeywordRow::default(); 512],
-            counts: Counts::default(),
+            lines: ArrayVec::new(),
+            keywords: ArrayVec::new(),
+            cell_count: 0,
         }
+    }
+
+    // Whether there is a line of that number.
+    pub(crate) fn has_number(&self, number: u16) -> bool
+        ensures { result ≡ list_any (λ l. l.number == number) self.now.lines.items }
+    {
+        self.lines
+            .iter()
+            .any(|line| u16::from(line.number) == number)
     }
 
     // The line goes behind the others.
     fn push<C: Cell>(&mut self, entry: &Entry<'_, C>)
         requires { Admitted self.old (request entry.now) }
-        ensures lines { lines_in self.new ≡ lines_in self.old ++ line_row self.old.counts.keywords (request entry.now) ∷ [] }
-        ensures keywords { keywords_in self.new ≡ keywords_in self.old ++ keyword_rows_from self.old.counts.cells (0 ∷ entry.now.gaps.now) entry.now.lengths.now }
-        ensures cells { self.new.counts.cells ≡ self.old.counts.cells + length entry.now.cells.now }
+        ensures lines { self.new.lines.items ≡ self.old.lines.items ++ line_row (length self.old.keywords.items) (request entry.now) ∷ [] }
+        ensures keywords { self.new.keywords.items ≡ self.old.keywords.items ++ keyword_rows_from self.old.cell_count (0 ∷ entry.now.gaps.now) entry.now.lengths.now }
+        ensures cells { self.new.cell_count ≡ self.old.cell_count + length entry.now.cells.now }
     {
-        let Counts {
-            lines,
-            keywords,
-            cells,
-        } = self.counts;
-        write_keywords(
+        let first = self.keywords.len();
+        push_keywords(
             &mut self.keywords,
-            keywords,
-            cells,
+            self.cell_count,
             entry.lengths,
             entry.gaps,
         );
-        self.lines[lines] = entry.row(keywords);
-        self.counts = Counts {
-            lines: lines + 1,
-            keywords: keywords + entry.lengths.len(),
-            cells: cells + entry.cells.len(),
-        };
+        self.lines.push(entry.row(first));
+        self.cell_count += entry.cells.len();
     }
 }
 
@@ -161,24 +155,24 @@ impl<'a, C: Cell> OpenBook<'a, C> {
         ensures memory { result.cells.now ≡ cells.old }
         ensures lender { result.cells.ghost_name ≡ cells.entry.ghost_name }
     {
-        let ledger = Ledger::new::<C>();
+        let ledger = Ledger::new();
         OpenBook { cells, ledger }
     }
 
-    // Whether there is a line of that number.
-    fn has_number(&self, number: u16) -> bool
-        ensures { result ≡ has_number number (open_book self.now) }
+    // Whether no line has that number.
+    #[tactic(auto, using(crate::proofs::Holdings::held_has_number))]
+    fn is_free(&self, number: u16) -> bool
+        ensures { result ≡ not (has_number number (open_book self.now)) }
     {
-        let count = self.ledger.counts.lines;
-        any_has(&self.ledger.lines[0..count], number)
+        !self.ledger.has_number(number)
     }
 
     // Whether there is room for the keywords and cells of an entry.
     fn has_room(&self, entry: &Entry<'_, C>) -> bool
         ensures { result ≡ has_room (open_book self.now) (places self.now) (request entry.now) }
     {
-        let keywords = 512 - self.ledger.counts.keywords;
-        let cells = self.cells.len().min(1023) - self.ledger.counts.cells;
+        let keywords = self.ledger.keywords.remaining_capacity();
+        let cells = self.cells.len().min(1023) - self.ledger.cell_count;
         entry.lengths.len() <= keywords && entry.cells.len() <= cells
     }
 
@@ -187,7 +181,7 @@ impl<'a, C: Cell> OpenBook<'a, C> {
         ensures { result ≡ enter_answer (open_book self.now) (places self.now) (request entry.now) }
     {
         ensure((1..=128).contains(&entry.number), Refusal::NumberOutOfRange)?;
-        ensure(!self.has_number(entry.number), Refusal::NumberTaken)?;
+        ensure(self.is_free(entry.number), Refusal::NumberTaken)?;
         ensure(entry.points_fit(), Refusal::PointsOutOfRange)?;
         ensure(entry.lag <= 63, Refusal::LagTooLong)?;
         ensure(entry.counts_match(), Refusal::KeywordCount)?;
@@ -198,12 +192,12 @@ impl<'a, C: Cell> OpenBook<'a, C> {
 
     // The cells go into the next free places.
     fn write_cells(&mut self, cells: &[C])
-        requires { self.old.ledger.counts.cells + length cells.now ≤ length self.old.cells.now }
-        ensures memory { self.new.cells.now ≡ filled self.old.cells.now self.old.ledger.counts.cells cells.now }
+        requires { self.old.ledger.cell_count + length cells.now ≤ length self.old.cells.now }
+        ensures memory { self.new.cells.now ≡ filled self.old.cells.now self.old.ledger.cell_count cells.now }
         ensures lender { self.new.cells.ghost_name ≡ self.old.cells.ghost_name }
         ensures ledger { self.new.ledger ≡ self.old.ledger }
     {
-        let at = self.ledger.counts.cells;
+        let at = self.ledger.cell_count;
         self.cells[at..at + cells.len()].copy_from_slice(cells);
     }
 

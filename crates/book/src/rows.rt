@@ -18,11 +18,3 @@ pub struct KeywordRow {
     pub first: u16,
     pub length: u8,
 }
-
-/// How much a book has of each.
-#[derive(Clone, Copy, PartialEq, Eq, Debug, Default)]
-pub struct Counts {
-    pub lines: usize,
-    pub keywords: usize,
-    pub cells: usize,
-}

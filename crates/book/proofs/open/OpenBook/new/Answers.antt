@@ -1,6 +1,6 @@
 use Rattle.std.proofs.Common.{rules}
 use Rattle.book.specs.Stored.{held}
-use Rattle.book.proofs.ledgers.Ledger.new.Goals as goal
+use Rattle.book.proofs.open.OpenBook.new.Goals as goal
 
 pub returns-clause-book : goal.returns-clause-book
 unfolding held
