@@ -3,13 +3,13 @@ use Rattle.std.proofs.Common.{◌≡◌, ◌+◌, ◌≤◌, Bool, true, false, 
 use Rattle.std.specs.List.{list_all, AllByRecursion}
 use Rattle.std.proofs.lemmas.Bool.{and_parts, leb-true, eqb-true, not-true}
 use Rattle.refusals.specs.declared.Refusal.{Refusal}
-use Rattle.book.specs.declared.ledgers.Ledger.{Ledger}
+use Rattle.book.specs.declared.open.OpenBook.{OpenBook}
 use Rattle.book.specs.Admitted.{Admitted}
 use Rattle.book.specs.Book.{Book, among, all_keywords, all_cells}
 use Rattle.book.specs.Cutting.{filled}
 use Rattle.book.specs.Entering.{Request, rules, judged, enter_answer, entered, cells_after, line_of}
 use Rattle.book.specs.Rules.{count_ok, length_ok}
-use Rattle.book.specs.Stored.{held}
+use Rattle.book.specs.Stored.{open_book, places}
 use Rattle.book.proofs.Holdings.{held_numbers, held_keyword_count, held_cell_count}
 
 -- a rule that does not hold ends the matter
@@ -27,20 +27,21 @@ pub taken : {C : Type 0} (b : Book C) (m : List C) (q : Request C) → enter_ans
     → (entered b (length m) q ≡ b ++ line_of q ∷ []) × (cells_after b m q ≡ filled m (length (all_cells b)) q.cells)
 taken b m q e = (ap (λ a. cond (is_ok a) (b ++ line_of q ∷ []) b) e, ap (λ a. cond (is_ok a) (filled m (length (all_cells b)) q.cells) m) e)
 
-module _ {C : Type 0} (b : Ledger) (m : List C) (q : Request C) (room : b.cell_count ≤ length m) (e : enter_answer (held b m) (length m) q ≡ Ok tt) where
-  pub admitted : Admitted b q × (b.cell_count + length q.cells ≤ length m)
+-- what a line keeps to that an open book takes
+module _ {C : Type 0} (b : OpenBook C) (q : Request C) (e : enter_answer (open_book b) (places b) q ≡ Ok tt) where
+  pub admitted : Admitted b.ledger q × (b.ledger.cell_count + length q.cells ≤ places b)
   admitted =
-      let p = all_hold (rules (held b m) (length m) q) e in
+      let p = all_hold (rules (open_book b) (places b) q) e in
       let counts = and_parts (count_ok (length q.lengths)) _ p.1.1.1.1.0 in
       let lengths = and_parts (list_all length_ok q.lengths) _ p.1.1.1.1.1.0 in
-      let rooms = and_parts (leb (length (all_keywords (held b m)) + length q.lengths) 512) _ p.1.1.1.1.1.1.1.0 in
+      let rooms = and_parts (leb (length (all_keywords (open_book b)) + length q.lengths) 512) _ p.1.1.1.1.1.1.1.0 in
       let k = leb-true _ _ rooms.0 in
       let n = leb-true _ _ rooms.1 in
-      let ek = held_keyword_count b m in
-      let en = held_cell_count b m room in (
+      let ek = held_keyword_count b.ledger b.cells.now in
+      let en = held_cell_count b.ledger b.cells.now b.room in (
         record {
           number = p.0;
-          fresh = ap (among q.number) (sym (held_numbers b m)) ∙ not-true _ p.1.0;
+          fresh = ap (among q.number) (sym (held_numbers b.ledger b.cells.now)) ∙ not-true _ p.1.0;
           points = p.1.1.0;
           lag = p.1.1.1.0;
           count = counts.0;

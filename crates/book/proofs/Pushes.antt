@@ -57,7 +57,7 @@ module _ {C : Type 0} (b : Ledger) (q : Request C) (a : Admitted b q) where
   gap_count = omega (arith, a.between)
 
   pub row_count : length rows ≡ length q.lengths
-  row_count = rows-length b.cell_count (0 ∷ q.gaps) q.lengths gap_count
+  row_count = rows-length b.cell_count (0 ∷ q.gaps) q.lengths
 
   pub joined_after : lines_laid (b.lines.items ++ row ∷ []) 0 (length b.keywords.items + length q.lengths) ≡ true
   joined_after = laid-append (λ l. l.first) (λ l. l.keywords) b.lines.items (row ∷ []) 0 (length b.keywords.items) _ b.joined (and_from _ _ (eq-eqb (length b.keywords.items) (length b.keywords.items) refl) (eq-eqb (length b.keywords.items + length q.lengths) (length b.keywords.items + length q.lengths) refl))
@@ -65,7 +65,7 @@ module _ {C : Type 0} (b : Ledger) (q : Request C) (a : Admitted b q) where
   pub laid_after : keywords_laid (b.keywords.items ++ rows) 0 (b.cell_count + length q.cells) ≡ true
   laid_after =
       ap (λ n. keywords_laid (b.keywords.items ++ rows) 0 (b.cell_count + n)) (sym a.cells)
-      ∙ laid-append (λ k. k.first) (λ k. k.length) b.keywords.items rows 0 b.cell_count _ b.laid (rows_laid b.cell_count (0 ∷ q.gaps) q.lengths gap_count)
+      ∙ laid-append (λ k. k.first) (λ k. k.length) b.keywords.items rows 0 b.cell_count _ b.laid (rows_laid b.cell_count (0 ∷ q.gaps) q.lengths)
 
   pub opened_after : opened (b.lines.items ++ row ∷ []) (b.keywords.items ++ rows) ≡ true
   opened_after = opened_push b.lines.items row b.keywords.items rows (size_is b) b.openings (rows_open b.cell_count q.gaps q.lengths (length q.lengths))
@@ -82,7 +82,7 @@ module _ {C : Type 0} (b : Ledger) (q : Request C) (a : Admitted b q) where
       let ns : List ℕ = q.lengths in
       let gs : List ℕ = 0 ∷ q.gaps in
       let eg = ap (map (λ k. k.gap)) ek ∙ map-append (λ k. k.gap) b.keywords.items rows ∙ ap (λ xs. gaps_in b ++ xs) (rows_gaps b.cell_count gs ns gap_count) in
-      let en = ap (map (λ k. k.length)) ek ∙ map-append (λ k. k.length) b.keywords.items rows ∙ ap (λ xs. lengths_in b ++ xs) (rows_lengths b.cell_count gs ns gap_count) in
+      let en = ap (map (λ k. k.length)) ek ∙ map-append (λ k. k.length) b.keywords.items rows ∙ ap (λ xs. lengths_in b ++ xs) (rows_lengths b.cell_count gs ns) in
       let old = cut_same (lengths_in b) b.cell_count m' m (omega (arith, total_is b)) (take-filled m q.cells b.cell_count room) in
       let new = ap (λ n. cut ns (drop n m')) (total_is b) ∙ cut-filled ns m q.cells b.cell_count room a.cells in
       let ec = ap (λ xs. cut xs m') en ∙ cut-append (lengths_in b) ns m' ∙ ap (λ xs. xs ++ cut ns (drop (total (lengths_in b)) m')) old ∙ ap (λ xs. cut (lengths_in b) m ++ xs) new in

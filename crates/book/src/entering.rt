@@ -42,29 +42,12 @@ fn ensure(holds: bool, refusal: Refusal) -> Result<(), Refusal>
     holds.then_some(()).ok_or(refusal)
 }
 
-// The gap before a keyword of a line: none before the first.
-fn gap_before(gaps: &[u16], keyword: usize) -> u16
-    requires { keyword ≤ length gaps.now }
-    ensures { result ≡ slice_index (0 ∷ gaps.now) keyword }
+// Copies cells into a memory, from a place on.
+fn fill<C: Cell>(memory: &mut [C], at: usize, cells: &[C])
+    requires { at + length cells.now ≤ length memory.old }
+    ensures { memory.new ≡ filled memory.old at cells.now }
 {
-    if keyword == 0 { 0 } else { gaps[keyword - 1] }
-}
-
-// Puts a row for each keyword behind the others, the cells from a place on.
-fn push_keywords(rows: &mut ArrayVec<KeywordRow, 512>, place: usize, lengths: &[u16], gaps: &[u16])
-    requires { Writable (length rows.old.items) place lengths.now gaps.now }
-    ensures { rows.new.items ≡ rows.old.items ++ keyword_rows_from place (0 ∷ gaps.now) lengths.now }
-{
-    let mut first = place;
-    for (i, length) in lengths.iter().enumerate() {
-        let gap = gap_before(gaps, i);
-        rows.push(KeywordRow {
-            gap: gap as u8,
-            first: first as u16,
-            length: *length as u8,
-        });
-        first += usize::from(*length);
-    }
+    memory[at..at + cells.len()].copy_from_slice(cells);
 }
 
 impl<C: Cell> Entry<'_, C> {
@@ -104,6 +87,35 @@ impl<C: Cell> Entry<'_, C> {
             keywords: self.lengths.len() as u8,
         }
     }
+
+    // The gap before a keyword: none before the first.
+    fn gap_before(&self, keyword: usize) -> u16
+        requires { keyword ≤ length self.now.gaps.now }
+        ensures { result ≡ slice_index (0 ∷ self.now.gaps.now) keyword }
+    {
+        if keyword == 0 {
+            0
+        } else {
+            self.gaps[keyword - 1]
+        }
+    }
+
+    // Puts a row for each keyword behind some rows, the cells from a place on.
+    fn push_keywords(&self, rows: &mut ArrayVec<KeywordRow, 512>, place: usize)
+        requires { Writable (length rows.old.items) place self.now.lengths.now self.now.gaps.now }
+        ensures { rows.new.items ≡ rows.old.items ++ keyword_rows_from place (0 ∷ self.now.gaps.now) self.now.lengths.now }
+    {
+        let mut first = place;
+        for (i, length) in self.lengths.iter().enumerate() {
+            let gap = self.gap_before(i);
+            rows.push(KeywordRow {
+                gap: gap as u8,
+                first: first as u16,
+                length: *length as u8,
+            });
+            first += usize::from(*length);
+        }
+    }
 }
 
 impl Ledger {
@@ -137,12 +149,7 @@ impl Ledger {
         ensures cells { self.new.cell_count ≡ self.old.cell_count + length entry.now.cells.now }
     {
         let first = self.keywords.len();
-        push_keywords(
-            &mut self.keywords,
-            self.cell_count,
-            entry.lengths,
-            entry.gaps,
-        );
+        entry.push_keywords(&mut self.keywords, self.cell_count);
         self.lines.push(entry.row(first));
         self.cell_count += entry.cells.len();
     }
@@ -190,25 +197,14 @@ impl<'a, C: Cell> OpenBook<'a, C> {
         ensure(self.has_room(entry), Refusal::BookFull)
     }
 
-    // The cells go into the next free places.
-    fn write_cells(&mut self, cells: &[C])
-        requires { self.old.ledger.cell_count + length cells.now ≤ length self.old.cells.now }
-        ensures memory { self.new.cells.now ≡ filled self.old.cells.now self.old.ledger.cell_count cells.now }
-        ensures lender { self.new.cells.ghost_name ≡ self.old.cells.ghost_name }
-        ensures ledger { self.new.ledger ≡ self.old.ledger }
-    {
-        let at = self.ledger.cell_count;
-        self.cells[at..at + cells.len()].copy_from_slice(cells);
-    }
-
-    // The line goes behind the others.
+    // The line goes behind the others, and its cells into the next free places.
     fn place(&mut self, entry: &Entry<'_, C>)
         requires { enter_answer (open_book self.old) (places self.old) (request entry.now) ≡ Ok tt }
         ensures book { open_book self.new ≡ entered (open_book self.old) (places self.old) (request entry.now) }
         ensures memory { self.new.cells.now ≡ cells_after (open_book self.old) self.old.cells.now (request entry.now) }
         ensures lender { self.new.cells.ghost_name ≡ self.old.cells.ghost_name }
     {
-        self.write_cells(entry.cells);
+        fill(self.cells, self.ledger.cell_count, entry.cells);
         self.ledger.push(entry);
     }
 

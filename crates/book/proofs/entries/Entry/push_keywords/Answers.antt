@@ -7,7 +7,7 @@ use Rattle.book.specs.Cutting.{total}
 use Rattle.book.specs.Rows.{keyword_rows_from}
 use Rattle.book.specs.Rules.{gap_ok, length_ok}
 use Rattle.book.proofs.Passes.{pass_at}
-use Rattle.book.proofs.entering.push_keywords.Goals as goal
+use Rattle.book.proofs.entries.Entry.push_keywords.Goals as goal
 
 module _ {rows place : ℕ} {lengths gaps : List ℕ} (w : Writable rows place lengths gaps) (i : ℕ) (h : i < length lengths) where
   short : get_or lengths i 0 ≤ 16
@@ -25,21 +25,21 @@ next_rows : (p : ℕ) (gs ns : List ℕ) (i : ℕ) → i < length gs → i < len
 next_rows p gs ns i h k = at_drop_more (λ xs. keyword_rows_from p xs (drop i ns)) gs i 0 h ∙ at_drop_more (λ xs. keyword_rows_from p (get_or gs i 0 ∷ drop (i + 1) gs) xs) ns i 0 k
 
 pub push-requires : goal.push-requires
-push-requires c = let n = c.loop-i.invariant.count in omega (arith, n, c.requires.row_room)
+push-requires g c = let n = c.loop-i.invariant.count in omega (arith, n, c.requires.row_room)
 
 pub overflow_add-first : goal.overflow_add-first
-overflow_add-first c =
-    let n = next_total c.args.lengths.now c.loop-i.i c.loop-i-test.true in
+overflow_add-first g c =
+    let n = next_total c.args.self.now.lengths.now c.loop-i.i c.loop-i-test.true in
     omega (arith, n, c.loop-i.invariant.first, c.requires.cell_room, c.from-first.ensures)
 
 pub loop-i-init : goal.loop-i-init
-loop-i-init c = record { rows = refl; first = refl; count = omega arith }
+loop-i-init g c = record { rows = refl; first = refl; count = omega arith }
 
 pub loop-i-preserved : goal.loop-i-preserved
-loop-i-preserved c =
+loop-i-preserved g c =
     let i = c.loop-i.i in
-    let ns = c.args.lengths.now in
-    let gs : List ℕ = 0 ∷ c.args.gaps.now in
+    let ns = c.args.self.now.lengths.now in
+    let gs : List ℕ = 0 ∷ c.args.self.now.gaps.now in
     let short : i < length gs = omega (arith, c.requires.between) in
     let x : KeywordRow = record { gap = c.gap_before-gap.result; first = c.loop-i.first; length = get_or ns i 0 } in
     let next = next_rows c.loop-i.first gs ns i short c.loop-i-test.true in
@@ -55,7 +55,7 @@ loop-i-preserved c =
     }
 
 pub returns : goal.returns
-returns c =
+returns g c =
     let i = c.loop-i.i in
-    let none = ap (keyword_rows_from c.loop-i.first (drop i (0 ∷ c.args.gaps.now))) (drop_all i c.args.lengths.now c.loop-i-test.false) in
+    let none = ap (keyword_rows_from c.loop-i.first (drop i (0 ∷ c.args.self.now.gaps.now))) (drop_all i c.args.self.now.lengths.now c.loop-i-test.false) in
     sym (append-nil c.loop-i.rows.items) ∙ ap (λ ys. c.loop-i.rows.items ++ ys) (sym none) ∙ c.loop-i.invariant.rows
