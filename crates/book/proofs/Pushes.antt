@@ -1,7 +1,7 @@
 -- A line that goes behind the others.
-use Rattle.std.proofs.Common.{◌≡◌, ℕ, ◌+◌, ◌<◌, ◌≤◌, true, ◌&&◌, List, [], ◌∷◌, ◌++◌, map, length, take, drop, set, sym, refl, ap, ◌∙◌, arith}
+use Rattle.std.proofs.Common.{◌≡◌, ℕ, ◌+◌, ◌<◌, ◌≤◌, true, ◌&&◌, List, [], ◌∷◌, ◌++◌, map, length, take, drop, sym, refl, ap, ◌∙◌, arith}
 use Rattle.std.specs.List.{list_all}
-use Rattle.std.proofs.lemmas.List.{length-map, length_push, map-append, take_all, take_more_set, take-append-le, drop-append-le, nil_from_length}
+use Rattle.std.proofs.lemmas.List.{length-map, length_push, map-append, take_all, take-append-le, drop-append-le, nil_from_length}
 use Rattle.std.proofs.lemmas.Bool.{and_parts, and_from, eq-eqb}
 use Rattle.book.specs.declared.rows.LineRow.{LineRow}
 use Rattle.book.specs.declared.rows.KeywordRow.{KeywordRow}
@@ -60,7 +60,7 @@ module _ {C : Type 0} (b : Ledger) (q : Request C) (a : Admitted b q) where
   row_count = rows-length b.cell_count (0 ∷ q.gaps) q.lengths
 
   pub joined_after : lines_laid (b.lines.items ++ row ∷ []) 0 (length b.keywords.items + length q.lengths) ≡ true
-  joined_after = laid-append (λ l. l.first) (λ l. l.keywords) b.lines.items (row ∷ []) 0 (length b.keywords.items) _ b.joined (and_from _ _ (eq-eqb (length b.keywords.items) (length b.keywords.items) refl) (eq-eqb (length b.keywords.items + length q.lengths) (length b.keywords.items + length q.lengths) refl))
+  joined_after = laid-append (λ l. l.first) (λ l. l.keywords) b.lines.items (row ∷ []) 0 (length b.keywords.items) _ b.joined (let k : ℕ = length b.keywords.items in and_from _ _ (eq-eqb k k refl) (eq-eqb (k + length q.lengths) (k + length q.lengths) refl))
 
   pub laid_after : keywords_laid (b.keywords.items ++ rows) 0 (b.cell_count + length q.cells) ≡ true
   laid_after =

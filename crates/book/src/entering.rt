@@ -119,7 +119,7 @@ impl<C: Cell> Entry<'_, C> {
 }
 
 impl Ledger {
-    // Tables with nothing in them.
+    // Tables with nothing in them. Written out, since no default is derived for a struct with ghost fields.
     fn new() -> Ledger
         ensures lines { result.lines.items ≡ [] }
         ensures keywords { result.keywords.items ≡ [] }
@@ -157,6 +157,7 @@ impl Ledger {
 
 impl<'a, C: Cell> OpenBook<'a, C> {
     /// An empty book over the caller's memory.
+    #[tactic(auto, unfolding(crate::specs::Stored::held))]
     pub fn new(cells: &'a mut [C]) -> OpenBook<'a, C>
         ensures book { open_book result ≡ [] }
         ensures memory { result.cells.now ≡ cells.old }
@@ -175,6 +176,7 @@ impl<'a, C: Cell> OpenBook<'a, C> {
     }
 
     // Whether there is room for the keywords and cells of an entry.
+    #[tactic(auto, using(crate::proofs::Holdings::held_keyword_count, crate::proofs::Holdings::held_cell_count))]
     fn has_room(&self, entry: &Entry<'_, C>) -> bool
         ensures { result ≡ has_room (open_book self.now) (places self.now) (request entry.now) }
     {

@@ -11,6 +11,7 @@ use cells::kinds::Cell;
 
 impl<'a, C: Cell> SealedBook<'a, C> {
     /// The lines, in entry order; and what the book keeps to.
+    #[tactic(auto, using(crate::proofs::Holdings::held_lines, crate::proofs::Holdings::held_proper))]
     pub fn lines(&self) -> &[LineRow]
         ensures rows { result.now ≡ line_rows (sealed_book self.now) }
         ensures proper { Proper (sealed_book self.now) }
@@ -19,6 +20,7 @@ impl<'a, C: Cell> SealedBook<'a, C> {
     }
 
     /// The keywords, line after line, each within its limits: 512 at most.
+    #[tactic(auto, using(crate::proofs::Holdings::held_keyword_rows, crate::proofs::Holdings::keywords_fit))]
     pub fn keywords(&self) -> &[KeywordRow]
         ensures rows { result.now ≡ keyword_rows (sealed_book self.now) }
         ensures fit { AllFit result.now }
@@ -28,6 +30,7 @@ impl<'a, C: Cell> SealedBook<'a, C> {
     }
 
     /// The cells by place, keyword after keyword: 1,023 at most.
+    #[tactic(auto, using(crate::proofs::Holdings::held_cells))]
     pub fn cells(&self) -> &'a [C]
         ensures cells { result.now ≡ all_cells (sealed_book self.now) }
         ensures few { length result.now ≤ 1023 }

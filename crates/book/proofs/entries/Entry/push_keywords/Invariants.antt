@@ -1,4 +1,4 @@
-use Rattle.std.proofs.Common.{◌≡◌, ◌+◌, ◌≤◌, ◌∷◌, ◌++◌, length, drop}
+use Rattle.std.proofs.Common.{◌≡◌, ◌+◌, ◌∷◌, ◌++◌, length, drop}
 use Rattle.book.specs.Cutting.{total}
 use Rattle.book.specs.Rows.{keyword_rows_from}
 use Rattle.book.proofs.entries.Entry.push_keywords.Given as goal
