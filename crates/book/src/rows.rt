@@ -1,4 +1,5 @@
 // What a book tells of its lines and keywords: plain rows.
+// They give positions, since a row that borrowed from its own book could not move with it.
 
 /// A line: its keywords are `keywords` rows of the book's table of keywords, from `first` on.
 #[derive(Clone, Copy, PartialEq, Eq, Debug, Default)]
