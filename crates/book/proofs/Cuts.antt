@@ -1,10 +1,16 @@
 -- Lists cut into parts, and parts that lie one after another.
-use Rattle.std.proofs.Common.{◌≡◌, ℕ, suc, ◌+◌, ◌≤◌, true, eqb, List, [], ◌∷◌, ◌++◌, map, length, take, drop, sym, refl, ap, ◌∙◌, append_assoc, arith, take-add}
-use Rattle.std.specs.List.{flat_map}
-use Rattle.std.proofs.lemmas.List.{length-take-le, length-drop, take-take, take_at, drop_at, drop-take, drop-drop}
+use Rattle.std.proofs.Common.{◌≡◌, ℕ, suc, ◌+◌, ◌≤◌, true, eqb, List, [], ◌∷◌, ◌++◌, map, length, take, drop, sym, refl, ap, ◌∙◌, arith, take-add}
+use Rattle.std.specs.List.{flat_map, sum_by}
+use Rattle.std.proofs.lemmas.List.Sums.{sum_by-cons}
+use Rattle.std.proofs.lemmas.List.Edits.{paste_all}
+use Rattle.std.proofs.lemmas.List.{take-append-le, length-take-le, length-drop, take-take, take_at, drop_at, drop-take, drop-drop}
 use Rattle.std.proofs.lemmas.Bool.{and_parts, and_from, eqb-true, eq-eqb}
 use Rattle.book.specs.Cutting.{total, cut, filled}
 use Rattle.book.specs.Layout.{laid}
+
+pub total_is_sum : (ns : List ℕ) → sum_by (λ n. n) ns ≡ total ns
+total_is_sum [] = refl
+total_is_sum (n ∷ ns) = sum_by-cons (λ m. m) n ns ∙ ap (λ t. n + t) (total_is_sum ns)
 
 pub total-append : (ms ns : List ℕ) → total (ms ++ ns) ≡ total ms + total ns
 total-append [] ns = omega arith
@@ -61,11 +67,11 @@ module _ {X : Type 0} where
 
   -- what stands before and from the filled places on
   pub take-filled : (m xs : List X) (at : ℕ) → at ≤ length m → take at (filled m at xs) ≡ take at m
-  take-filled m xs at h = ap (take at) (append_assoc (take at m) (take (length xs) xs) (drop (at + length xs) m)) ∙ take_at (take at m) _ at (length-take-le at m h)
+  take-filled m xs at h = ap (take at) (paste_all m at xs (length xs) refl) ∙ take_at (take at m) _ at (length-take-le at m h)
 
   pub cut-filled : (ns : List ℕ) (m xs : List X) (at : ℕ) → at ≤ length m → total ns ≡ length xs → cut ns (drop at (filled m at xs)) ≡ cut ns xs
   cut-filled ns m xs at h e =
-      let d = ap (drop at) (append_assoc (take at m) (take (length xs) xs) (drop (at + length xs) m)) ∙ drop_at (take at m) (take (length xs) xs ++ drop (at + length xs) m) at (length-take-le at m h) in
-      let u = length-take-le (length xs) xs (omega arith) in
-      let k = ap (λ n. take n (take (length xs) xs ++ drop (at + length xs) m)) e ∙ take_at (take (length xs) xs) (drop (at + length xs) m) (length xs) u in
-      ap (cut ns) d ∙ sym (cut-take ns _) ∙ ap (cut ns) (k ∙ ap (λ n. take n xs) (sym e)) ∙ cut-take ns xs
+      let rest : List X = drop (at + length xs) m in
+      ap (λ ys. cut ns (drop at ys)) (paste_all m at xs (length xs) refl)
+      ∙ ap (cut ns) (drop_at (take at m) (xs ++ rest) at (length-take-le at m h))
+      ∙ cut_same ns (length xs) (xs ++ rest) xs (omega arith) (take-append-le (length xs) xs rest (omega arith))

@@ -1,17 +1,15 @@
 -- What a line keeps to that the rules let pass.
-use Rattle.std.proofs.Common.{◌≡◌, ◌+◌, ◌≤◌, Bool, true, false, cond, leb, List, [], ◌∷◌, ◌++◌, length, is_ok, IfOk, IfErr, Ok, Err, Result, sym, refl, ap, ◌∙◌, arith}
+use Rattle.std.proofs.Common.{◌≡◌, ◌+◌, ◌≤◌, Bool, true, false, cond, leb, List, [], ◌∷◌, ◌++◌, length, is_ok, Ok, Err, sym, refl, ap, ◌∙◌, arith}
 use Rattle.std.specs.List.{list_all, AllByRecursion}
 use Rattle.std.proofs.lemmas.Bool.{and_parts, leb-true, eqb-true, not-true}
 use Rattle.refusals.specs.declared.Refusal.{Refusal}
 use Rattle.book.specs.declared.open.OpenBook.{OpenBook}
-use Rattle.book.specs.declared.ledgers.Ledger.{Ledger}
 use Rattle.book.specs.Admitted.{Admitted}
 use Rattle.book.specs.Book.{Book, among, all_keywords, all_cells}
 use Rattle.book.specs.Cutting.{filled}
 use Rattle.book.specs.Entering.{Request, rules, judged, enter_answer, entered, cells_after, line_of}
-use Rattle.book.specs.Outcomes.{Taken, Refused}
 use Rattle.book.specs.Rules.{count_ok, length_ok}
-use Rattle.book.specs.Stored.{held, open_book, places}
+use Rattle.book.specs.Stored.{open_book, places}
 use Rattle.book.proofs.Holdings.{held_numbers, held_keyword_count, held_cell_count}
 
 -- a rule that does not hold ends the matter
@@ -24,28 +22,26 @@ all_hold : (rs : List (Bool × Refusal)) → judged rs ≡ Ok tt → AllByRecurs
 all_hold [] e = tt
 all_hold (r ∷ rs) e = let p = first_holds r.0 r.1 rs e in (p.0, all_hold rs p.1)
 
--- the book and the memory after an answer
-module _ {C : Type 0} (b : Book C) (m : List C) (q : Request C) where
-  kept : (r : Refusal) → enter_answer b (length m) q ≡ Err r → (entered b (length m) q ≡ b) × (cells_after b m q ≡ m)
-  kept r e = (ap (λ a. cond (is_ok a) (b ++ line_of q ∷ []) b) e, ap (λ a. cond (is_ok a) (filled m (length (all_cells b)) q.cells) m) e)
+-- the book and the memory after a line that is taken
+pub taken : {C : Type 0} (b : Book C) (m : List C) (q : Request C) → enter_answer b (length m) q ≡ Ok tt
+    → (entered b (length m) q ≡ b ++ line_of q ∷ []) × (cells_after b m q ≡ filled m (length (all_cells b)) q.cells)
+taken b m q e = (ap (λ a. cond (is_ok a) (b ++ line_of q ∷ []) b) e, ap (λ a. cond (is_ok a) (filled m (length (all_cells b)) q.cells) m) e)
 
-  taken : enter_answer b (length m) q ≡ Ok tt → (entered b (length m) q ≡ b ++ line_of q ∷ []) × (cells_after b m q ≡ filled m (length (all_cells b)) q.cells)
-  taken e = (ap (λ a. cond (is_ok a) (b ++ line_of q ∷ []) b) e, ap (λ a. cond (is_ok a) (filled m (length (all_cells b)) q.cells) m) e)
-
-module _ {C : Type 0} (b : Ledger) (m : List C) (q : Request C) (room : b.counts.cells ≤ length m) (e : enter_answer (held b m) (length m) q ≡ Ok tt) where
-  admitted : Admitted b q × (b.counts.cells + length q.cells ≤ length m)
+-- what a line keeps to that an open book takes
+module _ {C : Type 0} (b : OpenBook C) (q : Request C) (e : enter_answer (open_book b) (places b) q ≡ Ok tt) where
+  pub admitted : Admitted b.ledger q × (b.ledger.cell_count + length q.cells ≤ places b)
   admitted =
-      let p = all_hold (rules (held b m) (length m) q) e in
+      let p = all_hold (rules (open_book b) (places b) q) e in
       let counts = and_parts (count_ok (length q.lengths)) _ p.1.1.1.1.0 in
       let lengths = and_parts (list_all length_ok q.lengths) _ p.1.1.1.1.1.0 in
-      let rooms = and_parts (leb (length (all_keywords (held b m)) + length q.lengths) 512) _ p.1.1.1.1.1.1.1.0 in
+      let rooms = and_parts (leb (length (all_keywords (open_book b)) + length q.lengths) 512) _ p.1.1.1.1.1.1.1.0 in
       let k = leb-true _ _ rooms.0 in
       let n = leb-true _ _ rooms.1 in
-      let ek = held_keyword_count b m in
-      let en = held_cell_count b m room in (
+      let ek = held_keyword_count b.ledger b.cells.now in
+      let en = held_cell_count b.ledger b.cells.now b.room in (
         record {
           number = p.0;
-          fresh = ap (among q.number) (sym (held_numbers b m)) ∙ not-true _ p.1.0;
+          fresh = ap (among q.number) (sym (held_numbers b.ledger b.cells.now)) ∙ not-true _ p.1.0;
           points = p.1.1.0;
           lag = p.1.1.1.0;
           count = counts.0;
@@ -58,17 +54,3 @@ module _ {C : Type 0} (b : Ledger) (m : List C) (q : Request C) (room : b.counts
         },
         omega arith,
       )
-
--- what is known of a line by the answer
-module _ {C : Type 0} (b : OpenBook C) (q : Request C) where
-  pub takes : (r : Result (Unit {0}) Refusal) → r ≡ enter_answer (open_book b) (places b) q → IfOk r (λ _. Taken b q)
-  takes (Ok x) e =
-      let m = b.cells.now in
-      let a = admitted b.ledger m q b.room (sym e) in
-      let t = taken (open_book b) m q (sym e) in
-      record { admitted = a.0; room = a.1; book = t.0; memory = t.1 ∙ ap (λ n. filled m n q.cells) (held_cell_count b.ledger m b.room) }
-  takes (Err r) e = tt
-
-  pub refuses : (r : Result (Unit {0}) Refusal) → r ≡ enter_answer (open_book b) (places b) q → IfErr r (λ _. Refused b q)
-  refuses (Ok x) e = tt
-  refuses (Err r) e = let k = kept (open_book b) b.cells.now q r (sym e) in record { book = k.0; memory = k.1 }

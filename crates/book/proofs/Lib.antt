@@ -1,7 +1,6 @@
 pub mod Amongs
 pub mod Cuts
 pub mod Passes
-pub mod Copies
 pub mod Few
 pub mod Lines
 pub mod Holdings

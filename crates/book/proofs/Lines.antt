@@ -1,5 +1,5 @@
 -- Lines that are made of keywords one after another.
-use Rattle.std.proofs.Common.{◌≡◌, ℕ, zero, suc, ◌+◌, ◌-◌, ◌≤◌, true, List, [], ◌∷◌, ◌++◌, map, length, take, drop, sym, refl, ap, ◌∙◌, arith}
+use Rattle.std.proofs.Common.{◌≡◌, ℕ, zero, suc, ◌+◌, ◌≤◌, true, List, [], ◌∷◌, ◌++◌, map, length, take, drop, sym, refl, ap, ◌∙◌, arith}
 use Rattle.std.specs.List.{list_all, AllByRecursion}
 use Rattle.std.proofs.lemmas.List.{length-take-le, length-drop, take-append-drop, take-append-le, drop-append-le, nil_from_length, take-map, drop-map}
 use Rattle.std.proofs.lemmas.Bool.{and_parts, eqb-true, leb-true}
@@ -26,6 +26,14 @@ opening : (n : ℕ) (ks : List KeywordRow) → opens (take n ks) ≡ true → 1 
 opening zero ks h some fits = absurd (let z : ⊥ = omega arith in z)
 opening (suc n) [] h some fits = absurd (let z : ⊥ = omega arith in z)
 opening (suc n) (k ∷ ks) h some fits = ap (λ g. g ∷ map (λ k. k.gap) (take n ks)) (sym (eqb-true k.gap 0 h))
+
+-- the parts of a line's limits
+limits : (l : LineRow) → line_ok l ≡ true → (number_ok l.number ≡ true) × (points_ok l.points ≡ true) × (lag_ok l.lag ≡ true) × (count_ok l.keywords ≡ true) × (1 ≤ l.keywords)
+limits l h =
+    let n = and_parts (number_ok l.number) _ h in
+    let p = and_parts (points_ok l.points) _ n.1 in
+    let t = and_parts (lag_ok l.lag) _ p.1 in
+    (n.0, p.0, t.0, t.1, leb-true 1 l.keywords (and_parts _ _ t.1).0)
 
 module _ {C : Type 0} where
   pub lines_push : (ls : List LineRow) (l : LineRow) (gs hs : List ℕ) (ks js : List (List C)) → size ls ≡ length gs → size ls ≡ length ks
@@ -68,7 +76,7 @@ module _ {C : Type 0} where
       let n : ℕ = l.keywords in
       let o = and_parts (opens (take n rows)) _ h in
       let q = and_parts (line_ok l) _ p in
-      let some = leb-true 1 n (and_parts _ _ (and_parts (lag_ok l.lag) _ (and_parts (points_ok l.points) _ (and_parts (number_ok l.number) _ q.0).1).1).1).0 in
+      let some = (limits l q.0).4 in
       let t = take-map (λ k. k.gap) n rows in
       let d = drop-map (λ k. k.gap) n rows in
       let a = ap (λ gs. 0 ∷ drop 1 gs) t ∙ opening n rows o.0 some (omega arith) ∙ sym t in
@@ -82,18 +90,16 @@ module _ {C : Type 0} where
   all_proper (l ∷ ls) gs ks e f p q r =
       let n : ℕ = l.keywords in
       let o = and_parts (line_ok l) _ p in
-      let o₁ = and_parts (number_ok l.number) _ o.0 in
-      let o₂ = and_parts (points_ok l.points) _ o₁.1 in
-      let o₃ = and_parts (lag_ok l.lag) _ o₂.1 in
-      let some = leb-true 1 n (and_parts _ _ o₃.1).0 in
+      let within = limits l o.0 in
+      let some = within.4 in
       let a = length-take-le n ks (omega arith) in
       let b = length-take-le n gs (omega arith) in
       let d = length-drop 1 (take n gs) in (
         record {
-          number = o₁.0;
-          points = o₂.0;
-          lag = o₃.0;
-          count = ap count_ok a ∙ o₃.1;
+          number = within.0;
+          points = within.1;
+          lag = within.2;
+          count = ap count_ok a ∙ within.3;
           between = omega arith;
           lengths = pass_take (λ k. length_ok (length k)) n ks r;
           gaps = pass_drop gap_ok 1 (take n gs) (pass_take gap_ok n gs q);

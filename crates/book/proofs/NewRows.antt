@@ -1,63 +1,42 @@
 -- The rows of keywords that are laid one after another.
-use Rattle.std.proofs.Common.{◌≡◌, ℕ, zero, suc, ◌+◌, ◌<◌, ◌≤◌, true, List, [], ◌∷◌, map, length, get_or, take, sym, refl, ap, ◌∙◌, add_assoc, arith}
+use Rattle.std.proofs.Common.{◌≡◌, ℕ, zero, suc, ◌+◌, ◌<◌, ◌≤◌, true, List, [], ◌∷◌, map, length, get_or, take, refl, ap, add_assoc, arith}
 use Rattle.std.specs.List.{list_all}
+use Rattle.std.proofs.lemmas.List.{take_more}
 use Rattle.std.proofs.lemmas.Bool.{and_parts, and_from, eq-eqb}
-use Rattle.book.specs.declared.rows.KeywordRow.{KeywordRow}
 use Rattle.book.specs.Cutting.{total}
 use Rattle.book.specs.Layout.{keywords_laid, opens, keyword_ok}
 use Rattle.book.specs.Rows.{keyword_rows_from}
 use Rattle.book.specs.Rules.{length_ok, gap_ok}
-
-none : ⊥ → {X : Type 0} → X
-none z = absurd z
+use Rattle.book.proofs.Cuts.{total-append}
 
 pub total_more : (ns : List ℕ) (i : ℕ) → i < length ns → total (take (i + 1) ns) ≡ total (take i ns) + get_or ns i 0
-total_more [] i h = none (omega arith)
-total_more (n ∷ ns) zero h = omega arith
-total_more (n ∷ ns) (suc i) h =
-    let e : suc i + 1 ≡ suc (i + 1) = omega arith in
-    let r = total_more ns i (omega arith) in
-    ap (λ k. total (take k (n ∷ ns))) e ∙ (let s : n + total (take (i + 1) ns) ≡ n + total (take i ns) + get_or ns i 0 = omega arith in s)
+total_more ns i h = omega (arith, ap total (take_more ns i 0 h), total-append (take i ns) (get_or ns i 0 ∷ []))
 
 pub total-take : (i : ℕ) (ns : List ℕ) → total (take i ns) ≤ total ns
 total-take zero ns = omega arith
 total-take (suc i) [] = omega arith
 total-take (suc i) (n ∷ ns) = let r = total-take i ns in omega arith
 
-pub rows-length : (p : ℕ) (gs ns : List ℕ) → length gs ≡ length ns → length (keyword_rows_from p gs ns) ≡ length ns
-rows-length p [] [] e = refl
-rows-length p [] (n ∷ ns) e = none (omega arith)
-rows-length p (g ∷ gs) [] e = refl
-rows-length p (g ∷ gs) (n ∷ ns) e = ap suc (rows-length (p + n) gs ns (omega arith))
+pub rows-length : (p : ℕ) (gs ns : List ℕ) → length (keyword_rows_from p gs ns) ≡ length ns
+rows-length p gs [] = refl
+rows-length p [] (n ∷ ns) = ap suc (rows-length (p + n) [] ns)
+rows-length p (g ∷ gs) (n ∷ ns) = ap suc (rows-length (p + n) gs ns)
 
-pub rows_lengths : (p : ℕ) (gs ns : List ℕ) → length gs ≡ length ns → map (λ k. k.length) (keyword_rows_from p gs ns) ≡ ns
-rows_lengths p [] [] e = refl
-rows_lengths p [] (n ∷ ns) e = none (omega arith)
-rows_lengths p (g ∷ gs) [] e = refl
-rows_lengths p (g ∷ gs) (n ∷ ns) e = ap (λ xs. n ∷ xs) (rows_lengths (p + n) gs ns (omega arith))
+pub rows_lengths : (p : ℕ) (gs ns : List ℕ) → map (λ k. k.length) (keyword_rows_from p gs ns) ≡ ns
+rows_lengths p gs [] = refl
+rows_lengths p [] (n ∷ ns) = ap (λ xs. n ∷ xs) (rows_lengths (p + n) [] ns)
+rows_lengths p (g ∷ gs) (n ∷ ns) = ap (λ xs. n ∷ xs) (rows_lengths (p + n) gs ns)
 
 pub rows_gaps : (p : ℕ) (gs ns : List ℕ) → length gs ≡ length ns → map (λ k. k.gap) (keyword_rows_from p gs ns) ≡ gs
 rows_gaps p [] [] e = refl
-rows_gaps p [] (n ∷ ns) e = none (omega arith)
-rows_gaps p (g ∷ gs) [] e = none (omega arith)
+rows_gaps p [] (n ∷ ns) e = absurd (omega arith)
+rows_gaps p (g ∷ gs) [] e = absurd (omega arith)
 rows_gaps p (g ∷ gs) (n ∷ ns) e = ap (λ xs. g ∷ xs) (rows_gaps (p + n) gs ns (omega arith))
 
-pub row_at : (p : ℕ) (gs ns : List ℕ) (i : ℕ) (d : KeywordRow) → length gs ≡ length ns → i < length ns
-    → get_or (keyword_rows_from p gs ns) i d ≡ record { gap = get_or gs i 0; first = p + total (take i ns); length = get_or ns i 0 }
-row_at p gs [] i d e h = none (omega arith)
-row_at p [] (n ∷ ns) i d e h = none (omega arith)
-row_at p (g ∷ gs) (n ∷ ns) zero d e h = let z : p ≡ p + 0 = omega arith in λ k. record { gap = g; first = z k; length = n }
-row_at p (g ∷ gs) (n ∷ ns) (suc i) d e h =
-    let r = row_at (p + n) gs ns i d (omega arith) (omega arith) in
-    let a = add_assoc p n (total (take i ns)) in
-    r ∙ (λ k. record { gap = get_or gs i 0; first = a k; length = get_or ns i 0 })
-
-pub rows_laid : (p : ℕ) (gs ns : List ℕ) → length gs ≡ length ns → keywords_laid (keyword_rows_from p gs ns) p (p + total ns) ≡ true
-rows_laid p [] [] e = eq-eqb p (p + 0) (omega arith)
-rows_laid p [] (n ∷ ns) e = none (omega arith)
-rows_laid p (g ∷ gs) [] e = none (omega arith)
-rows_laid p (g ∷ gs) (n ∷ ns) e =
-    and_from _ _ (eq-eqb p p refl) (ap (keywords_laid (keyword_rows_from (p + n) gs ns) (p + n)) (sym (add_assoc p n (total ns))) ∙ rows_laid (p + n) gs ns (omega arith))
+pub rows_laid : (p : ℕ) (gs ns : List ℕ) → keywords_laid (keyword_rows_from p gs ns) p (p + total ns) ≡ true
+rows_laid p gs [] = eq-eqb p (p + 0) (omega arith)
+rows_laid p [] (n ∷ ns) = and_from _ _ (eq-eqb p p refl) (rw (add_assoc p n (total ns)) at (rows_laid (p + n) [] ns))
+rows_laid p (g ∷ gs) (n ∷ ns) = and_from _ _ (eq-eqb p p refl) (rw (add_assoc p n (total ns)) at (rows_laid (p + n) gs ns))
 
 pub rows_ok : (p : ℕ) (gs ns : List ℕ) → list_all gap_ok gs ≡ true → list_all length_ok ns ≡ true → list_all keyword_ok (keyword_rows_from p gs ns) ≡ true
 rows_ok p [] [] h k = refl

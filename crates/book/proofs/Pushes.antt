@@ -1,13 +1,12 @@
 -- A line that goes behind the others.
-use Rattle.std.proofs.Common.{◌≡◌, ℕ, ◌+◌, ◌<◌, ◌≤◌, true, ◌&&◌, List, [], ◌∷◌, ◌++◌, map, length, take, drop, set, sym, refl, ap, ◌∙◌, arith}
-use lib.Seq.{take-paste, length-paste}
+use Rattle.std.proofs.Common.{◌≡◌, ℕ, ◌+◌, ◌<◌, ◌≤◌, true, ◌&&◌, List, [], ◌∷◌, ◌++◌, map, length, take, drop, sym, refl, ap, ◌∙◌, arith}
 use Rattle.std.specs.List.{list_all}
-use Rattle.std.proofs.lemmas.List.{length-map, length_push, map-append, take_all, take_more_set, take-append-le, drop-append-le, nil_from_length}
+use Rattle.std.proofs.lemmas.List.{length-map, length_push, map-append, take_all, take-append-le, drop-append-le, nil_from_length}
 use Rattle.std.proofs.lemmas.Bool.{and_parts, and_from, eq-eqb}
 use Rattle.book.specs.declared.rows.LineRow.{LineRow}
 use Rattle.book.specs.declared.rows.KeywordRow.{KeywordRow}
 use Rattle.book.specs.declared.ledgers.Ledger.{Ledger}
-use Rattle.book.specs.Admitted.{Admitted, lines_in, keywords_in, line_row}
+use Rattle.book.specs.Admitted.{Admitted, line_row}
 use Rattle.book.specs.Cutting.{total, cut, filled}
 use Rattle.book.specs.Entering.{Request, line_of}
 use Rattle.book.specs.Layout.{lines_laid, keywords_laid, opens, opened, distinct, line_ok, keyword_ok}
@@ -16,7 +15,7 @@ use Rattle.book.specs.Rules.{number_ok, within}
 use Rattle.book.specs.Stored.{held, lines_from}
 use Rattle.book.proofs.Cuts.{laid-append, length_cut, cut-append, cut_same, take-filled, cut-filled}
 use Rattle.book.proofs.Few.{few, distinct_push}
-use Rattle.book.proofs.Holdings.{lengths_in, gaps_in, line_count, keyword_count, size_is, total_is, sized_gaps, sized_keywords}
+use Rattle.book.proofs.Holdings.{lengths_in, gaps_in, size_is, total_is, sized_gaps, sized_keywords}
 use Rattle.book.proofs.Lines.{size, rest, lines_push}
 use Rattle.book.proofs.NewRows.{rows-length, rows_lengths, rows_gaps, rows_laid, rows_ok, rows_open}
 use Rattle.book.proofs.Passes.{pass_append, pass_map, pass_weaker}
@@ -32,77 +31,66 @@ opened_push (x ∷ ls) l ks js e h k =
 
 module _ {C : Type 0} (b : Ledger) (q : Request C) (a : Admitted b q) where
   abbrev pub row : LineRow
-  row = line_row b.counts.keywords q
+  row = line_row (length b.keywords.items) q
 
   abbrev pub rows : List KeywordRow
-  rows = keyword_rows_from b.counts.cells (0 ∷ q.gaps) q.lengths
+  rows = keyword_rows_from b.cell_count (0 ∷ q.gaps) q.lengths
 
-  pub numbers_apart : distinct (map (λ l. l.number) (lines_in b ++ row ∷ [])) ≡ true
-  numbers_apart = ap distinct (map-append (λ l. l.number) (lines_in b) (row ∷ [])) ∙ distinct_push (map (λ l. l.number) (lines_in b)) q.number b.apart a.fresh
+  pub numbers_apart : distinct (map (λ l. l.number) (b.lines.items ++ row ∷ [])) ≡ true
+  numbers_apart = ap distinct (map-append (λ l. l.number) b.lines.items (row ∷ [])) ∙ distinct_push (map (λ l. l.number) b.lines.items) q.number b.apart a.fresh
 
   row_ok : line_ok row ≡ true
   row_ok = and_from _ _ a.number (and_from _ _ a.points (and_from _ _ a.lag a.count))
 
-  pub lines_ok : list_all line_ok (lines_in b ++ row ∷ []) ≡ true
-  lines_ok = pass_append line_ok (lines_in b) (row ∷ []) b.proper (and_from _ _ row_ok refl)
+  pub lines_ok : list_all line_ok (b.lines.items ++ row ∷ []) ≡ true
+  lines_ok = pass_append line_ok b.lines.items (row ∷ []) b.proper (and_from _ _ row_ok refl)
 
   -- distinct numbers up to 128 leave room for one more
-  pub line_room : b.counts.lines < 128
+  pub line_room : length b.lines.items < 128
   line_room =
-      let ok = pass_weaker line_ok (λ l. number_ok l.number) (λ l h. (and_parts (number_ok l.number) _ h).0) (lines_in b ++ row ∷ []) lines_ok in
-      let n = few 128 (map (λ l. l.number) (lines_in b ++ row ∷ [])) numbers_apart (pass_map (within 1 128) (λ l. l.number) (lines_in b ++ row ∷ []) ∙ ok) in
-      let m = length-map (lines_in b ++ row ∷ []) (λ l. l.number) ∙ length_push (lines_in b) row in
-      omega (arith, line_count b)
+      let ok = pass_weaker line_ok (λ l. number_ok l.number) (λ l h. (and_parts (number_ok l.number) _ h).0) (b.lines.items ++ row ∷ []) lines_ok in
+      let n = few 128 (map (λ l. l.number) (b.lines.items ++ row ∷ [])) numbers_apart (pass_map (within 1 128) (λ l. l.number) (b.lines.items ++ row ∷ []) ∙ ok) in
+      let m = length-map (b.lines.items ++ row ∷ []) (λ l. l.number) ∙ length_push b.lines.items row in
+      omega arith
 
   gap_count : length (0 ∷ q.gaps) ≡ length q.lengths
   gap_count = omega (arith, a.between)
 
   pub row_count : length rows ≡ length q.lengths
-  row_count = rows-length b.counts.cells (0 ∷ q.gaps) q.lengths gap_count
+  row_count = rows-length b.cell_count (0 ∷ q.gaps) q.lengths
 
-  pub lines_after : take (b.counts.lines + 1) (set b.lines b.counts.lines row) ≡ lines_in b ++ row ∷ []
-  lines_after = take_more_set b.lines b.counts.lines row (omega (arith, line_room, b.whole.0))
+  pub joined_after : lines_laid (b.lines.items ++ row ∷ []) 0 (length b.keywords.items + length q.lengths) ≡ true
+  joined_after = laid-append (λ l. l.first) (λ l. l.keywords) b.lines.items (row ∷ []) 0 (length b.keywords.items) _ b.joined (let k : ℕ = length b.keywords.items in and_from _ _ (eq-eqb k k refl) (eq-eqb (k + length q.lengths) (k + length q.lengths) refl))
 
-  pub keywords_after : take (b.counts.keywords + length q.lengths) (filled b.keywords b.counts.keywords rows) ≡ keywords_in b ++ rows
-  keywords_after =
-      let t = take-paste b.keywords b.counts.keywords rows (length rows) (omega (arith, b.few.1, b.whole.1)) (omega arith) in
-      ap (λ n. take (b.counts.keywords + n) (filled b.keywords b.counts.keywords rows)) (sym row_count) ∙ t ∙ ap (λ xs. keywords_in b ++ xs) (take_all (length rows) rows (omega arith))
-
-  pub keywords_whole : length (filled b.keywords b.counts.keywords rows) ≡ 512
-  keywords_whole = length-paste b.keywords b.counts.keywords rows (length rows) (omega (arith, row_count, a.keyword_room, b.whole.1)) (omega arith) ∙ b.whole.1
-
-  pub joined_after : lines_laid (lines_in b ++ row ∷ []) 0 (b.counts.keywords + length q.lengths) ≡ true
-  joined_after = laid-append (λ l. l.first) (λ l. l.keywords) (lines_in b) (row ∷ []) 0 b.counts.keywords _ b.joined (and_from _ _ (eq-eqb b.counts.keywords b.counts.keywords refl) (eq-eqb (b.counts.keywords + length q.lengths) (b.counts.keywords + length q.lengths) refl))
-
-  pub laid_after : keywords_laid (keywords_in b ++ rows) 0 (b.counts.cells + length q.cells) ≡ true
+  pub laid_after : keywords_laid (b.keywords.items ++ rows) 0 (b.cell_count + length q.cells) ≡ true
   laid_after =
-      ap (λ n. keywords_laid (keywords_in b ++ rows) 0 (b.counts.cells + n)) (sym a.cells)
-      ∙ laid-append (λ k. k.first) (λ k. k.length) (keywords_in b) rows 0 b.counts.cells _ b.laid (rows_laid b.counts.cells (0 ∷ q.gaps) q.lengths gap_count)
+      ap (λ n. keywords_laid (b.keywords.items ++ rows) 0 (b.cell_count + n)) (sym a.cells)
+      ∙ laid-append (λ k. k.first) (λ k. k.length) b.keywords.items rows 0 b.cell_count _ b.laid (rows_laid b.cell_count (0 ∷ q.gaps) q.lengths)
 
-  pub opened_after : opened (lines_in b ++ row ∷ []) (keywords_in b ++ rows) ≡ true
-  opened_after = opened_push (lines_in b) row (keywords_in b) rows (size_is b ∙ sym (keyword_count b)) b.openings (rows_open b.counts.cells q.gaps q.lengths (length q.lengths))
+  pub opened_after : opened (b.lines.items ++ row ∷ []) (b.keywords.items ++ rows) ≡ true
+  opened_after = opened_push b.lines.items row b.keywords.items rows (size_is b) b.openings (rows_open b.cell_count q.gaps q.lengths (length q.lengths))
 
-  pub sized_after : list_all keyword_ok (keywords_in b ++ rows) ≡ true
-  sized_after = pass_append keyword_ok (keywords_in b) rows b.sized (rows_ok b.counts.cells (0 ∷ q.gaps) q.lengths a.gaps a.lengths)
+  pub sized_after : list_all keyword_ok (b.keywords.items ++ rows) ≡ true
+  sized_after = pass_append keyword_ok b.keywords.items rows b.sized (rows_ok b.cell_count (0 ∷ q.gaps) q.lengths a.gaps a.lengths)
 
   -- the book that is then held
-  pub held_after : (b' : Ledger) (m : List C) → b.counts.cells ≤ length m → lines_in b' ≡ lines_in b ++ row ∷ [] → keywords_in b' ≡ keywords_in b ++ rows
-      → held b' (filled m b.counts.cells q.cells) ≡ held b m ++ line_of q ∷ []
+  pub held_after : (b' : Ledger) (m : List C) → b.cell_count ≤ length m → b'.lines.items ≡ b.lines.items ++ row ∷ [] → b'.keywords.items ≡ b.keywords.items ++ rows
+      → held b' (filled m b.cell_count q.cells) ≡ held b m ++ line_of q ∷ []
   unfolding held
   held_after b' m room el ek =
-      let m' : List C = filled m b.counts.cells q.cells in
+      let m' : List C = filled m b.cell_count q.cells in
       let ns : List ℕ = q.lengths in
       let gs : List ℕ = 0 ∷ q.gaps in
-      let eg = ap (map (λ k. k.gap)) ek ∙ map-append (λ k. k.gap) (keywords_in b) rows ∙ ap (λ xs. gaps_in b ++ xs) (rows_gaps b.counts.cells gs ns gap_count) in
-      let en = ap (map (λ k. k.length)) ek ∙ map-append (λ k. k.length) (keywords_in b) rows ∙ ap (λ xs. lengths_in b ++ xs) (rows_lengths b.counts.cells gs ns gap_count) in
-      let old = cut_same (lengths_in b) b.counts.cells m' m (omega (arith, total_is b)) (take-filled m q.cells b.counts.cells room) in
-      let new = ap (λ n. cut ns (drop n m')) (total_is b) ∙ cut-filled ns m q.cells b.counts.cells room a.cells in
+      let eg = ap (map (λ k. k.gap)) ek ∙ map-append (λ k. k.gap) b.keywords.items rows ∙ ap (λ xs. gaps_in b ++ xs) (rows_gaps b.cell_count gs ns gap_count) in
+      let en = ap (map (λ k. k.length)) ek ∙ map-append (λ k. k.length) b.keywords.items rows ∙ ap (λ xs. lengths_in b ++ xs) (rows_lengths b.cell_count gs ns) in
+      let old = cut_same (lengths_in b) b.cell_count m' m (omega (arith, total_is b)) (take-filled m q.cells b.cell_count room) in
+      let new = ap (λ n. cut ns (drop n m')) (total_is b) ∙ cut-filled ns m q.cells b.cell_count room a.cells in
       let ec = ap (λ xs. cut xs m') en ∙ cut-append (lengths_in b) ns m' ∙ ap (λ xs. xs ++ cut ns (drop (total (lengths_in b)) m')) old ∙ ap (λ xs. cut (lengths_in b) m ++ xs) new in
-      let push = lines_push (lines_in b) row (gaps_in b) gs (cut (lengths_in b) m) (cut ns q.cells) (sized_gaps b m) (sized_keywords b m) in
+      let push = lines_push b.lines.items row (gaps_in b) gs (cut (lengths_in b) m) (cut ns q.cells) (sized_gaps b m) (sized_keywords b m) in
       let whole = take_all (length ns) (cut ns q.cells) (omega (arith, length_cut ns q.cells)) in
       let gaps = ap (drop 1) (take_all (length ns) gs (omega (arith, gap_count))) in
       let last : lines_from (row ∷ []) gs (cut ns q.cells) ≡ line_of q ∷ [] = λ i. record { number = q.number; points = q.points; lag = q.lag; keywords = whole i; gaps = gaps i } ∷ [] in
       ap (λ ls. lines_from ls (gaps_in b') (cut (lengths_in b') m')) el
-      ∙ ap (λ xs. lines_from (lines_in b ++ row ∷ []) xs (cut (lengths_in b') m')) eg
-      ∙ ap (lines_from (lines_in b ++ row ∷ []) (gaps_in b ++ gs)) ec
+      ∙ ap (λ xs. lines_from (b.lines.items ++ row ∷ []) xs (cut (lengths_in b') m')) eg
+      ∙ ap (lines_from (b.lines.items ++ row ∷ []) (gaps_in b ++ gs)) ec
       ∙ push ∙ ap (λ xs. held b m ++ xs) last

@@ -37,8 +37,10 @@ abbrev pub lengths_ok : {C : Type 0} → Request C → Bool
 lengths_ok q = list_all length_ok q.lengths && total q.lengths == length q.cells
 
 -- a book takes 512 keywords, and as many cells as its memory has places, but never over 1,023
-abbrev pub room_ok : ℕ → ℕ → ℕ → Bool
-room_ok memory keywords cells = nat_le keywords 512 && nat_le cells (min memory 1023)
+abbrev pub has_room : {C : Type 0} → Book C → ℕ → Request C → Bool
+has_room b memory q =
+    nat_le (length (all_keywords b) + length q.lengths) 512
+    && nat_le (length (all_cells b) + length q.cells) (min memory 1023)
 
 -- the rules in the order in which they are checked, each with the refusal where it is broken
 abbrev pub rules : {C : Type 0} → Book C → ℕ → Request C → List (Bool × Refusal)
@@ -50,7 +52,7 @@ rules b memory q =
     ∷ (counts_ok q, KeywordCount)
     ∷ (lengths_ok q, KeywordLength)
     ∷ (list_all gap_ok q.gaps, GapTooLong)
-    ∷ (room_ok memory (length (all_keywords b) + length q.lengths) (length (all_cells b) + length q.cells), BookFull)
+    ∷ (has_room b memory q, BookFull)
     ∷ []
 
 -- the refusal of the first rule that is broken

@@ -7,4 +7,3 @@ pub mod Rows
 pub mod Proper
 pub mod Entering
 pub mod Admitted
-pub mod Outcomes

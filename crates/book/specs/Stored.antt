@@ -22,9 +22,7 @@ lines_from (l ∷ ls) gaps keywords =
 
 -- the book in a ledger, whose cells are in a memory
 unfoldable pub held : {C : Type 0} → Ledger → List C → Book C
-held b memory =
-    let rows = take b.counts.keywords b.keywords in
-    lines_from (take b.counts.lines b.lines) (map (λ k. k.gap) rows) (cut (map (λ k. k.length) rows) memory)
+held b memory = lines_from b.lines.items (map (λ k. k.gap) b.keywords.items) (cut (map (λ k. k.length) b.keywords.items) memory)
 
 -- what an open book holds
 abbrev pub open_book : {C : Type 0} → OpenBook C → Book C

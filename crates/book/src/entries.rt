@@ -1,4 +1,5 @@
 // What the book writer hands in.
+// Three flat slices, since a list of keywords that hold their cells would need a heap.
 
 /// A line to be entered: the lengths of its keywords, the gap between each keyword and the next,
 /// and the cells of all keywords, one after another.

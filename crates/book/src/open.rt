@@ -8,5 +8,5 @@ use crate::ledgers::Ledger;
 pub struct OpenBook<'a, C> {
     pub(crate) cells: &'a mut [C],
     pub(crate) ledger: Ledger,
-    ghost room: { ledger.counts.cells ≤ length cells.now },
+    ghost room: { ledger.cell_count ≤ length cells.now },
 }

@@ -1,7 +1,8 @@
 // What a book tells of its lines and keywords: plain rows.
+// They give positions, since a row that borrowed from its own book could not move with it.
 
 /// A line: its keywords are `keywords` rows of the book's table of keywords, from `first` on.
-#[derive(Clone, Copy)]
+#[derive(Clone, Copy, PartialEq, Eq, Debug, Default)]
 pub struct LineRow {
     pub number: u8,
     pub points: i32,
@@ -12,17 +13,9 @@ pub struct LineRow {
 
 /// A keyword: its cells are `length` places of the book, from `first` on.
 /// The gap is the one before it, 0 before the first keyword of a line.
-#[derive(Clone, Copy)]
+#[derive(Clone, Copy, PartialEq, Eq, Debug, Default)]
 pub struct KeywordRow {
     pub gap: u8,
     pub first: u16,
     pub length: u8,
-}
-
-/// How much a book has of each.
-#[derive(Clone, Copy)]
-pub struct Counts {
-    pub lines: usize,
-    pub keywords: usize,
-    pub cells: usize,
 }

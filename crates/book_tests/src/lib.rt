@@ -9,12 +9,9 @@ mod tests {
     use refusals::Refusal;
     use std::test::Fail;
 
-    // The refusal's number, or 0 where the line was taken.
-    fn told(answer: Result<(), Refusal>) -> u8 {
-        match answer {
-            Ok(()) => 0,
-            Err(refusal) => refusal.number(),
-        }
+    // The refusal's number, if the line was refused.
+    fn told(answer: Result<(), Refusal>) -> Option<u8> {
+        answer.err().map(Refusal::number)
     }
 
     // A line of one keyword.
@@ -35,15 +32,15 @@ mod tests {
         let mut memory = [a; 4];
         let mut book = OpenBook::new(&mut memory);
         for (number, refusal) in [
-            (0u16, 11u8),
-            (1, 0),
-            (1, 12),
-            (128, 0),
-            (128, 12),
-            (129, 11),
-            (65535, 11),
+            (0u16, Some(11u8)),
+            (1, None),
+            (1, Some(12)),
+            (128, None),
+            (128, Some(12)),
+            (129, Some(11)),
+            (65535, Some(11)),
         ] {
-            assert!(rt; told(book.enter(short_line(number, &[a]))) == refusal);
+            assert_eq!(rt; told(book.enter(short_line(number, &[a]))), refusal);
         }
         let sealed = book.seal();
         assert!(rt; sealed.lines().len() == 2);
@@ -59,21 +56,21 @@ mod tests {
         let mut memory = [a; 8];
         let mut book = OpenBook::new(&mut memory);
         for (number, points, lag, refusal) in [
-            (1u16, -1000i32, 0u16, 13u8),
-            (1, -999, 0, 0),
-            (2, 999, 63, 0),
-            (3, 1000, 0, 13),
-            (3, 0, 64, 14),
-            (3, 0, 65535, 14),
-            (3, 1000, 64, 13),
-            (2, 1000, 64, 12),
+            (1u16, -1000i32, 0u16, Some(13u8)),
+            (1, -999, 0, None),
+            (2, 999, 63, None),
+            (3, 1000, 0, Some(13)),
+            (3, 0, 64, Some(14)),
+            (3, 0, 65535, Some(14)),
+            (3, 1000, 64, Some(13)),
+            (2, 1000, 64, Some(12)),
         ] {
             let entry = Entry {
                 points,
                 lag,
                 ..short_line(number, &cells)
             };
-            assert!(rt; told(book.enter(entry)) == refusal);
+            assert_eq!(rt; told(book.enter(entry)), refusal);
         }
         Ok(())
     }
@@ -103,12 +100,12 @@ mod tests {
         let mut memory = cells;
         let mut book = OpenBook::new(&mut memory);
         for (keywords, between, refusal) in [
-            (0usize, 0usize, 15u8),
-            (1, 1, 15),
-            (2, 0, 15),
-            (2, 2, 15),
-            (17, 16, 15),
-            (16, 15, 0),
+            (0usize, 0usize, Some(15u8)),
+            (1, 1, Some(15)),
+            (2, 0, Some(15)),
+            (2, 2, Some(15)),
+            (17, 16, Some(15)),
+            (16, 15, None),
         ] {
             let entry = line_of(
                 4,
@@ -116,7 +113,7 @@ mod tests {
                 &gaps[0..between],
                 &cells[0..keywords],
             );
-            assert!(rt; told(book.enter(entry)) == refusal);
+            assert_eq!(rt; told(book.enter(entry)), refusal);
         }
         let sealed = book.seal();
         assert!(rt; sealed.keywords().len() == 16);
@@ -129,18 +126,18 @@ mod tests {
         let mut memory = cells;
         let mut book = OpenBook::new(&mut memory);
         for (first, second, given, refusal) in [
-            (0u16, 1u16, 1usize, 16u8),
-            (1, 0, 1, 16),
-            (17, 1, 18, 16),
-            (1, 17, 18, 16),
-            (1, 1, 1, 16),
-            (1, 1, 3, 16),
-            (65535, 1, 18, 16),
-            (16, 1, 17, 0),
+            (0u16, 1u16, 1usize, Some(16u8)),
+            (1, 0, 1, Some(16)),
+            (17, 1, 18, Some(16)),
+            (1, 17, 18, Some(16)),
+            (1, 1, 1, Some(16)),
+            (1, 1, 3, Some(16)),
+            (65535, 1, 18, Some(16)),
+            (16, 1, 17, None),
         ] {
             let lengths = [first, second];
             let entry = line_of(4, &lengths, &[3], &cells[0..given]);
-            assert!(rt; told(book.enter(entry)) == refusal);
+            assert_eq!(rt; told(book.enter(entry)), refusal);
         }
         Ok(())
     }
@@ -151,15 +148,15 @@ mod tests {
         let mut memory = [cells[0]; 9];
         let mut book = OpenBook::new(&mut memory);
         for (number, first, second, refusal) in [
-            (1u16, 113u16, 0u16, 17u8),
-            (1, 0, 113, 17),
-            (1, 65535, 0, 17),
-            (1, 0, 112, 0),
-            (2, 112, 0, 0),
+            (1u16, 113u16, 0u16, Some(17u8)),
+            (1, 0, 113, Some(17)),
+            (1, 65535, 0, Some(17)),
+            (1, 0, 112, None),
+            (2, 112, 0, None),
         ] {
             let gaps = [first, second];
             let entry = line_of(number, &[1, 1, 1], &gaps, &cells);
-            assert!(rt; told(book.enter(entry)) == refusal);
+            assert_eq!(rt; told(book.enter(entry)), refusal);
         }
         let sealed = book.seal();
         let keywords = sealed.keywords();
@@ -173,28 +170,27 @@ mod tests {
         let a = LetterCell::new(b'A')?;
         let mut none = [a; 0];
         let mut book = OpenBook::new(&mut none);
-        assert!(rt; told(book.enter(short_line(1, &[a]))) == 18);
+        assert_eq!(rt; told(book.enter(short_line(1, &[a]))), Some(18));
         assert!(rt; book.seal().lines().is_empty());
         let mut one = [a; 1];
         let mut book = OpenBook::new(&mut one);
-        assert!(rt; told(book.enter(short_line(1, &[a]))) == 0);
-        assert!(rt; told(book.enter(short_line(2, &[a]))) == 18);
+        assert_eq!(rt; told(book.enter(short_line(1, &[a]))), None);
+        assert_eq!(rt; told(book.enter(short_line(2, &[a]))), Some(18));
         Ok(())
     }
 
-    // Enters lines from 1 up to a last number, and tells whether all were taken.
+    // Enters lines from 1 up to a last number, until one is refused.
     fn fill<'e>(
         book: &mut OpenBook<'_, LetterCell>,
         last: u16,
         lengths: &'e [u16],
         gaps: &'e [u16],
         cells: &'e [LetterCell],
-    ) -> bool {
-        let mut taken = true;
+    ) -> Result<(), Refusal> {
         for number in 1..=last {
-            taken = taken && told(book.enter(line_of(number, lengths, gaps, cells))) == 0;
+            book.enter(line_of(number, lengths, gaps, cells))?;
         }
-        taken
+        Ok(())
     }
 
     #[test]
@@ -209,7 +205,11 @@ mod tests {
         let fits = told(book.enter(line_of(64, &[15], &[], &fewer)));
         let full = told(book.enter(short_line(65, &[a])));
         let count = book.seal().cells().len();
-        assert!(rt; taken && over == 18 && fits == 0 && full == 18 && count == 1023);
+        assert_eq!(rt;
+            (told(taken), over, fits, full),
+            (None, Some(18), None, Some(18))
+        );
+        assert_eq!(rt; count, 1023);
         Ok(())
     }
 
@@ -225,7 +225,10 @@ mod tests {
         let fits = told(book.enter(line_of(128, &[1; 4], &[0; 3], &four)));
         let again = told(book.enter(short_line(128, &[a])));
         let sealed = book.seal();
-        assert!(rt; taken && over == 18 && fits == 0 && again == 12);
+        assert_eq!(rt;
+            (told(taken), over, fits, again),
+            (None, Some(18), None, Some(12))
+        );
         assert!(rt; sealed.lines().len() == 128);
         assert!(rt; sealed.keywords().len() == 512);
         Ok(())
