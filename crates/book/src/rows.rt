@@ -1,4 +1,5 @@
 // What a book tells of its lines and keywords: plain rows.
+ghost use Rattle.std.specs.Prelude.{◌≡◌, ◌+◌, ◌-◌};
 
 /// A line: its keywords are `keywords` rows of the book's table of keywords, from `first` on.
 #[derive(Clone, Copy)]
@@ -17,6 +18,15 @@ pub struct KeywordRow {
     pub gap: u8,
     pub first: u16,
     pub length: u8,
+}
+
+impl KeywordRow {
+    /// The last place of the keyword. Where there are no places up to there, it is place 0.
+    pub fn last_place(&self) -> usize
+        ensures { result ≡ self.now.first + self.now.length - 1 }
+    {
+        (usize::from(self.first) + usize::from(self.length)).saturating_sub(1)
+    }
 }
 
 /// How much a book has of each.

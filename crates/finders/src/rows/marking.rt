@@ -71,12 +71,9 @@ fn runs_after<C: Cell>(
 fn marks_last<C: Cell>(book: &SealedBook<'_, C>, marks: &[bool; PLACES], keyword: usize) -> bool
     ensures { result ≡ ends (sealed_book book.now) (λ p. slice_index_or marks.now p false) keyword }
 {
-    let keywords = book.keywords();
-    if keyword >= keywords.len() {
-        return false;
-    }
-    let row = keywords[keyword];
-    marks[row.first as usize + row.length as usize - 1]
+    book.keywords()
+        .get(keyword)
+        .is_some_and(|row| marks[row.last_place()])
 }
 
 impl<'a, C: Cell> RowFinder<'a, C> {
