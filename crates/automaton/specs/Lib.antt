@@ -2,6 +2,7 @@ pub mod Memory
 pub mod Walk
 pub mod Places
 pub mod Trie
+pub mod Planting
 pub mod Pass
 pub mod Breadth
 pub mod Linked

@@ -20,7 +20,7 @@ returns c =
     let found = c.in_ok-row.ensures.lookup in
     let f = rows.fit c.args.keyword row found.3.0 in
     let same : c.last_place.result ≡ (get_or c.keywords.result.now c.args.keyword row).first + (get_or c.keywords.result.now c.args.keyword row).length - 1 =
-        c.last_place.ensures ∙ ap (λ r. r.first + r.length - 1) found.1 in
+    c.last_place.ensures ∙ ap (λ r. r.first + r.length - 1) found.1 in
     let k = told (book_of t) _ c.args.keyword row rows.rows rows.fit found.3.0 in
     let inside : c.last_place.result < length (all_cells (book_of t)) = omega (arith, same, f.some, k.lies.inside) in (
       ∥∥₁_elim t.linked (hlevel props) (λ L. state_turned _ _ _ _ _ L _ inside),
