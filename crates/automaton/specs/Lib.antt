@@ -5,6 +5,7 @@ pub mod Trie
 pub mod Planting
 pub mod Pass
 pub mod Breadth
+pub mod Linking
 pub mod Linked
 pub mod Standing
 pub mod Meaning
