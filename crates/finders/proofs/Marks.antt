@@ -5,11 +5,11 @@ use Rattle.std.proofs.lemmas.Bool.{cases_order, lt-ltb, le-ltb, eq-eqb, ne_eqb, 
 use Rattle.book.specs.declared.rows.KeywordRow.{KeywordRow}
 use Rattle.finders.specs.Runs.{passes, ends_among}
 
--- no mark stands in an empty row
-pub never : (n p : ℕ) → get_or (replicate n false) p false ≡ false
-never zero p = refl
-never (suc n) zero = refl
-never (suc n) (suc p) = never n p
+-- what stands in a row that is filled with one value
+pub never : {X : Type 0} (d : X) (n p : ℕ) → get_or (replicate n d) p d ≡ d
+never d zero p = refl
+never d (suc n) zero = refl
+never d (suc n) (suc p) = never d n p
 
 module _ {X : Type 0} (test : X → Bool) where
   pub passes_at : (xs : List X) (p : ℕ) (d : X) → p < length xs → passes test xs p ≡ test (get_or xs p d)
