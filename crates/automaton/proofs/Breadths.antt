@@ -114,12 +114,14 @@ module _ (w : Places) (next fail turns queue : List ℕ) (x c t : ℕ) (R : With
         };
       }
 
-pub within_same : (w : Places) (next : List ℕ) {fail fail' turns turns' queue queue' : List ℕ} (x c t : ℕ) → fail' ≡ fail → turns' ≡ turns → queue' ≡ queue
-    → Within w next fail turns queue x c t → Within w next fail' turns' queue' x c t
-within_same w next {fail' = fail'} {turns = turns} {turns' = turns'} {queue = queue} x c t e₁ e₂ e₃ R =
-    subst (λ (q : List ℕ). Within w next fail' turns' q x c t) (sym e₃)
-    (subst (λ (l : List ℕ). Within w next fail' l queue x c t) (sym e₂)
-    (subst (λ (l : List ℕ). Within w next l turns queue x c t) (sym e₁) R))
+pub within_same : (w : Places) {next next' fail fail' turns turns' queue queue' : List ℕ} (x c : ℕ) {t t' : ℕ}
+    → next' ≡ next → fail' ≡ fail → turns' ≡ turns → queue' ≡ queue → t' ≡ t → Within w next fail turns queue x c t → Within w next' fail' turns' queue' x c t'
+within_same w {next' = next'} {fail = fail} {fail' = fail'} {turns = turns} {turns' = turns'} {queue = queue} {queue' = queue'} x c {t = t} e₁ e₂ e₃ e₄ e₅ R =
+    subst (λ (n : ℕ). Within w next' fail' turns' queue' x c n) (sym e₅)
+    (subst (λ (q : List ℕ). Within w next' fail' turns' q x c t) (sym e₄)
+    (subst (λ (l : List ℕ). Within w next' fail' l queue x c t) (sym e₃)
+    (subst (λ (l : List ℕ). Within w next' l turns queue x c t) (sym e₂)
+    (subst (λ (l : List ℕ). Within w l fail turns queue x c t) (sym e₁) R))))
 
 pub between_same : (w : Places) (next fail turns : List ℕ) {queue queue' : List ℕ} (t : ℕ) → queue' ≡ queue → Between w next fail turns queue t → Between w next fail turns queue' t
 between_same w next fail turns t e B = subst (λ (q : List ℕ). Between w next fail turns q t) (sym e) B
@@ -192,3 +194,10 @@ all_settled w next fail turns queue t e B =
       own = S.pass.own;
       settled = λ x c in_c h. S.pass.settled x c (in_c, h, omega (arith, S.pass.most x));
     }
+
+pub automaton_same : (w : Places) {next next' fail fail' turns turns' : List ℕ} → next' ≡ next → fail' ≡ fail → turns' ≡ turns
+    → Automaton w (leads next) (at fail) (at turns) → Automaton w (leads next') (at fail') (at turns')
+automaton_same w {next' = next'} {fail = fail} {fail' = fail'} {turns = turns} e₁ e₂ e₃ A =
+    subst (λ (l : List ℕ). Automaton w (leads next') (at fail') (at l)) (sym e₃)
+    (subst (λ (l : List ℕ). Automaton w (leads next') (at l) (at turns)) (sym e₂)
+    (subst (λ (l : List ℕ). Automaton w (leads l) (at fail) (at turns)) (sym e₁) A))

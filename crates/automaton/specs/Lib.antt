@@ -2,8 +2,10 @@ pub mod Memory
 pub mod Walk
 pub mod Places
 pub mod Trie
+pub mod Planting
 pub mod Pass
 pub mod Breadth
+pub mod Linking
 pub mod Linked
 pub mod Standing
 pub mod Meaning

@@ -18,7 +18,7 @@ pub(crate) const ROOT: u16 = 0;
 pub(crate) fn edge(state: u16, letter: u8) -> usize
     ensures { result ≡ state * 16 + letter }
 {
-    state as usize * LETTERS as usize + letter as usize
+    usize::from(state) * usize::from(LETTERS) + usize::from(letter)
 }
 
 // Sets every number to 0.

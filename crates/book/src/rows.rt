@@ -1,5 +1,6 @@
 // What a book tells of its lines and keywords: plain rows.
 // They give positions, since a row that borrowed from its own book could not move with it.
+ghost use Rattle.std.specs.Prelude.{◌≡◌, ◌+◌, ◌-◌};
 
 /// A line: its keywords are `keywords` rows of the book's table of keywords, from `first` on.
 #[derive(Clone, Copy, PartialEq, Eq, Debug, Default)]
@@ -18,4 +19,13 @@ pub struct KeywordRow {
     pub gap: u8,
     pub first: u16,
     pub length: u8,
+}
+
+impl KeywordRow {
+    /// The last place of the keyword. Where there are no places up to there, it is place 0.
+    pub fn last_place(&self) -> usize
+        ensures { result ≡ self.now.first + self.now.length - 1 }
+    {
+        (usize::from(self.first) + usize::from(self.length)).saturating_sub(1)
+    }
 }

@@ -1,14 +1,15 @@
 -- Rows of marks.
-use Rattle.std.proofs.Common.{◌≡◌, ℕ, zero, suc, ◌+◌, ◌-◌, ◌<◌, ◌≤◌, Bool, true, false, ◌&&◌, ◌||◌, eqb, ltb, List, [], ◌∷◌, length, get_or, replicate, sym, refl, ap, ◌∙◌, ⊎_elim, arith}
+use Rattle.std.proofs.Common.{◌≡◌, ℕ, zero, suc, ◌+◌, ◌-◌, ◌<◌, ◌≤◌, Bool, true, false, ◌&&◌, ◌||◌, eqb, ltb, List, [], ◌∷◌, length, get_or, replicate, sym, refl, ap, ◌∙◌, ⊎_elim, Some, None, Option, MatchOption, arith}
+use Rattle.std.specs.Option.{IfSome}
 use Rattle.std.proofs.lemmas.Bool.{cases_order, lt-ltb, le-ltb, eq-eqb, ne_eqb, and_right}
 use Rattle.book.specs.declared.rows.KeywordRow.{KeywordRow}
 use Rattle.finders.specs.Runs.{passes, ends_among}
 
--- no mark stands in an empty row
-pub never : (n p : ℕ) → get_or (replicate n false) p false ≡ false
-never zero p = refl
-never (suc n) zero = refl
-never (suc n) (suc p) = never n p
+-- what stands in a row that is filled with one value
+pub never : {X : Type 0} (d : X) (n p : ℕ) → get_or (replicate n d) p d ≡ d
+never d zero p = refl
+never d (suc n) zero = refl
+never d (suc n) (suc p) = never d n p
 
 module _ {X : Type 0} (test : X → Bool) where
   pub passes_at : (xs : List X) (p : ℕ) (d : X) → p < length xs → passes test xs p ≡ test (get_or xs p d)
@@ -31,6 +32,14 @@ module _ (stands : ℕ → Bool) where
   ends_past [] k h = refl
   ends_past (r ∷ rs) zero h = absurd (let z : ⊥ = omega arith in z)
   ends_past (r ∷ rs) (suc k) h = ends_past rs k (omega arith)
+
+  -- what is told of a row that was asked for: where there is one, whether a run stands at its last place
+  pub ends_got : {X : Type 0} (row : X → KeywordRow) (asked : Option X) (rs : List KeywordRow) (k : ℕ) (told : Bool) (Q R : X → Type 0)
+      → IfSome asked (λ x. row x ≡ get_or rs k (row x)) → MatchOption asked (length rs ≤ k) (λ x. (k < length rs) × R x)
+      → MatchOption asked (told ≡ false) Q → ((x : X) → Q x → told ≡ stands ((row x).first + (row x).length - 1)) → told ≡ ends_among rs stands k
+  ends_got row None rs k told Q R is there m f = m ∙ sym (ends_past rs k there)
+  ends_got row (Some x) rs k told Q R is there m f =
+      f x m ∙ sym (ends_at rs k (row x) there.0 ∙ ap (λ r. stands (r.first + r.length - 1)) (sym is))
 
 -- a set of marks that has come one number further
 module _ (e : ℕ → Bool) (n : ℕ) where

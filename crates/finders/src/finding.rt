@@ -64,6 +64,7 @@ pub trait Finder<C: Cell>: Sized {
         ensures { (k : ℕ) → mark result k ≡ ends (book self.now) (stands self.now) k }
     {
         let mut all = Column::none();
+        // The number of a keyword, by which it is asked for and marked; no slice is read at it.
         for keyword in 0..self.keywords().len() {
             if self.ended(keyword) {
                 all = all.with(keyword);

@@ -66,10 +66,10 @@ impl<'a> Finder<LetterCell> for LetterAutomaton<'a> {
     }
 
     fn ended(&self, keyword: usize) -> bool {
-        match self.tables.last_state(keyword) {
-            Some(last) => self.tables.meets(self.state, last),
-            None => false,
-        }
+        let Some(last) = self.tables.last_state(keyword) else {
+            return false;
+        };
+        self.tables.meets(self.state, last)
     }
 
     fn lines(&self) -> &[LineRow] {

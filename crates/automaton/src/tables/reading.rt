@@ -51,12 +51,8 @@ impl<'a> Tables<'a> {
     pub(crate) fn last_state(&self, keyword: usize) -> Option<u16>
         ensures { MatchOption result ((state : ℕ) → false ≡ ends (book_of self.now) (stands_in self.now state) keyword) (λ last. State self.now last × ((state : ℕ) → meets (at self.now.fail.now) state last ≡ ends (book_of self.now) (stands_in self.now state) keyword)) }
     {
-        let keywords = self.book.keywords();
-        if keyword >= keywords.len() {
-            return None;
-        }
-        let row = keywords[keyword];
-        Some(self.states[row.first as usize + row.length as usize - 1])
+        let row = self.book.keywords().get(keyword)?;
+        Some(self.states[row.last_place()])
     }
 
     // How many cells of a keyword lead from the root to a state, if some do.
@@ -64,13 +60,12 @@ impl<'a> Tables<'a> {
         requires { keyword.first + keyword.length ≤ 1023 }
         ensures { MatchOption result ((i : ℕ) → i < keyword.length → at self.now.states.now (keyword.first + i) ≢ state) (λ count. (0 < count) × (count ≤ keyword.length) × (at self.now.states.now (keyword.first + count - 1) ≡ state)) }
     {
-        let first = keyword.first as usize;
-        for i in 0..keyword.length as usize {
-            if self.states[first + i] == state {
-                return Some(i + 1);
-            }
-        }
-        None
+        let first = usize::from(keyword.first);
+        let end = first + usize::from(keyword.length);
+        self.states[first..end]
+            .iter()
+            .position(|reached| *reached == state)
+            .map(|before| before + 1)
     }
 
     // The label of a state: the cells of a keyword that lead to it from the root.
