@@ -13,7 +13,7 @@ pub struct Letter {
 }
 
 /// A letter cell admits its own letter only.
-#[derive(Clone, Copy)]
+#[derive(Clone, Copy, Default)]
 pub struct LetterCell {
     letter: Letter,
 }

@@ -37,6 +37,15 @@ impl Letter {
     }
 }
 
+// The first letter, A.
+impl Default for Letter {
+    ghost is_default = { λ letter. letter.byte ≡ 65 };
+
+    fn default() -> Letter {
+        Letter { byte: FIRST }
+    }
+}
+
 impl LetterCell {
     /// The cell of a byte's letter; NoSymbol where the byte is no letter.
     pub fn new(byte: u8) -> Result<LetterCell, Refusal>
