@@ -5,9 +5,9 @@ use Rattle.page.specs.Decimals.{whole_of}
 use Rattle.page.proofs.Steps.{value_step, value_end, digits_step, digits_end, ten_more, ten_most, digit_is}
 use Rattle.page.proofs.fields.read_whole.Goals as goal
 
-pub returns-then-not-is_digit : goal.returns-then-not-is_digit
+pub returns-then-not-is_ascii_digit : goal.returns-then-not-is_ascii_digit
 unfolding whole_of
-returns-then-not-is_digit c =
+returns-then-not-is_ascii_digit c =
     let s = digits_step c.args.digits.now c.loop-digit.digit-index (omega arith) in
     record { value = grind (arith, nat_tests); small = search rules }
 
