@@ -109,6 +109,7 @@ pub(crate) fn first_bad(field: &[u8], letters: usize) -> Option<usize>
     if letters == 0 {
         return Some(0);
     }
+    // The byte that refusal 23 is told at comes out of the loop by break.
     let mut column = letters;
     loop {
         if column == field.len() {

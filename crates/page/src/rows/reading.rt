@@ -27,13 +27,20 @@ fn flaw(refusal: Refusal, column: usize) -> Flaw
     }
 }
 
+// How many keywords a row has room for.
+fn count_keywords(row: &[u8]) -> usize
+    ensures { result ≡ keywords_in (length row.now) }
+{
+    row.len().saturating_sub(11) / 21
+}
+
 impl<'r> Row<'r> {
     // A row by its length: 11 columns, and 21 for each of 1 to 16 keywords.
     pub(crate) fn new(bytes: &'r [u8]) -> Result<Row<'r>, Flaw>
         ensures { MatchResult result (λ r. (r.bytes.now ≡ bytes.now) × (length_flaw bytes.now ≡ None)) (λ f. length_flaw bytes.now ≡ Some f) }
     {
-        let keywords = bytes.len().saturating_sub(11) / 21;
-        if 1 <= keywords && keywords <= 16 && bytes.len() == 11 + 21 * keywords {
+        let keywords = count_keywords(bytes);
+        if (1..=16).contains(&keywords) && bytes.len() == 11 + 21 * keywords {
             Ok(Row { bytes })
         } else {
             Err(flaw(Refusal::RowLength, bytes.len() + 1))
@@ -44,7 +51,7 @@ impl<'r> Row<'r> {
     pub(crate) fn keywords(&self) -> usize
         ensures { result ≡ keywords_in (length self.now.bytes.now) }
     {
-        (self.bytes.len() - 11) / 21
+        count_keywords(self.bytes)
     }
 
     // So many bytes of it, from a column on.
