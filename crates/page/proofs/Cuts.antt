@@ -1,6 +1,7 @@
 -- A page cut into rows.
 use Rattle.std.proofs.Common.{◌≡◌, ℕ, suc, ◌+◌, ◌-◌, ◌<◌, Bool, true, false, cond, not, eqb, List, [], ◌∷◌, length, take, drop, sym, refl, ap, ◌∙◌, one-add, arith}
 use Rattle.std.proofs.lemmas.List.{length-drop}
+use Rattle.std.proofs.lemmas.Bool.{eqb-false}
 use Rattle.inputs.specs.Parts.{row_length}
 use Rattle.page.specs.Rows.{rows_of, byte_before}
 
@@ -32,11 +33,12 @@ first_row [] h = absurd (omega arith)
 first_row (b ∷ []) h = closed_or_not b [] (eqb b 10) refl
 first_row (b ∷ (c ∷ cs)) h = closed_or_not b (c ∷ cs) (eqb b 10) (byte_more b (c ∷ cs) (first_row (c ∷ cs) (omega arith)))
 
--- the same of a row that has been split off, which leaves fewer bytes
-pub split_off : (rest row behind : List ℕ) → 0 < length rest → row ≡ take (row_length rest) rest → behind ≡ drop (row_length rest + 1) rest
+-- the same of a row that has been split off what is left, which leaves fewer bytes
+pub split_off : (rest row behind : List ℕ) → false ≡ eqb (length rest) 0 → row ≡ take (row_length rest) rest → behind ≡ drop (row_length rest + 1) rest
     → (rows_of rest ≡ row ∷ rows_of behind) × (length behind < length rest)
 split_off rest row behind h e f =
+    let some = eqb-false (length rest) 0 (sym h) in
     let l : length behind ≡ length rest - (row_length rest + 1) = ap length f ∙ length-drop (row_length rest + 1) rest in (
-      first_row rest h ∙ ap (λ r. r ∷ rows_of (drop (row_length rest + 1) rest)) (sym e) ∙ ap (λ bs. row ∷ rows_of bs) (sym f),
+      first_row rest (omega arith) ∙ ap (λ r. r ∷ rows_of (drop (row_length rest + 1) rest)) (sym e) ∙ ap (λ bs. row ∷ rows_of bs) (sym f),
       omega arith,
     )

@@ -1,5 +1,5 @@
 -- What is wrong with a field, case by case.
-use Rattle.std.proofs.Common.{◌≡◌, ℕ, ◌+◌, ◌*◌, ◌<◌, true, false, cond, List, [], ◌∷◌, ◌++◌, length, drop, Some, None, Ok, Err, Option, Result, unwrap_or, sym, refl, ap, ◌∙◌, arith, MatchResult}
+use Rattle.std.proofs.Common.{◌≡◌, ℕ, ◌+◌, ◌*◌, ◌<◌, List, [], ◌∷◌, ◌++◌, length, drop, Some, None, Ok, Err, Option, Result, unwrap_or, sym, refl, ap, ◌∙◌, arith, MatchResult}
 use Rattle.std.proofs.lemmas.List.FromFn.{length-map-range_with_len, get_or-map-range_with_len, map-range_with_len_more}
 use Rattle.std.proofs.lemmas.List.{drop_all, at_drop_more, map-id, flat_map_more}
 use Rattle.std.specs.List.{range_with_len, flat_map}
@@ -11,7 +11,7 @@ use Rattle.refusals.specs.declared.Refusal.TheVariants.{BadDecimal}
 use Rattle.page.specs.declared.faults.Flaw.{Flaw}
 use Rattle.page.specs.Bytes.{blanks}
 use Rattle.page.specs.Decimals.{decimal_in, points_in, whole_of}
-use Rattle.page.specs.Columns.{number_field, points_field, lag_field, gap_field, between_field, letter_field, keywords_in}
+use Rattle.page.specs.Columns.{from_column, number_field, points_field, lag_field, gap_field, between_field, letter_field, keywords_in}
 use Rattle.page.specs.Flaws.{at_column, length_flaw, blank_flaw, decimal_flaw, letter_flaw, gap_flaw, keyword_flaw, keyword_flaws, first_of, row_flaw}
 use Rattle.page.specs.declared.drafts.Draft.{Draft}
 use Rattle.page.specs.Row.{gap_of, cells_of, lengths_up_to, gaps_up_to, cells_up_to}
@@ -56,23 +56,43 @@ gap_cases row k column field r n e c h =
     h ∙ ap (λ f. ok_or (decimal_in f) (at_column BadDecimal column)) e ∙ ap (λ m. ok_or (decimal_in (gap_field row k)) (at_column BadDecimal m)) c in
     simp (q, g) (decimal_cases (decimal_in (gap_field row k)) (12 + 21 * k))
 
-pub decimal_read : {X : Type 0} (o p : Option X) (f : Flaw) (x : X) → p ≡ o → Ok x ≡ ok_or p f → o ≡ Some x
-decimal_read o None f x e h = cc
-decimal_read o (Some y) f x e h = cc
+read_ok : {X : Type 0} (o : Option X) (f : Flaw) (x : X) → Ok x ≡ ok_or o f → o ≡ Some x
+read_ok None f x h = cc
+read_ok (Some y) f x h = cc
 
-pub decimal_missed : {X : Type 0} (o p : Option X) (column n : ℕ) (f : Flaw) → p ≡ o → n ≡ column → Err f ≡ ok_or p (at_column BadDecimal n) → decimal_flaw column o ≡ Some f
-decimal_missed o None column n f e g h =
-    let z : at_column BadDecimal n ≡ f = cc in
-    ap (decimal_flaw column) (sym e) ∙ ap (λ m. Some (at_column BadDecimal m)) (sym g) ∙ ap Some z
-decimal_missed o (Some y) column n f e g h = cc
+read_err : {X : Type 0} (o : Option X) (f g : Flaw) → Err g ≡ ok_or o f → (o ≡ None) × (f ≡ g)
+read_err None f g h = (refl, cc)
+read_err (Some y) f g h = cc
+
+-- a field that was read, and one that was not
+pub field_read : {X : Type 0} (read : List ℕ → Option X) (column width : ℕ) (row bytes field : List ℕ) (f : Flaw) (x : X)
+    → field ≡ from_column column width bytes → bytes ≡ row → Ok x ≡ ok_or (read field) f → read (from_column column width row) ≡ Some x
+field_read read column width row bytes field f x e b h = ap read (sym (e ∙ ap (from_column column width) b)) ∙ read_ok (read field) f x h
+
+pub field_missed : {X : Type 0} (read : List ℕ → Option X) (column width : ℕ) (row bytes field : List ℕ) (n : ℕ) (f : Flaw)
+    → field ≡ from_column column width bytes → bytes ≡ row → n ≡ column → Err f ≡ ok_or (read field) (at_column BadDecimal n)
+    → decimal_flaw column (read (from_column column width row)) ≡ Some f
+field_missed read column width row bytes field n f e b c h =
+    let r = read_err (read field) (at_column BadDecimal n) f h in
+    ap (λ bs. decimal_flaw column (read bs)) (sym (e ∙ ap (from_column column width) b))
+    ∙ ap (decimal_flaw column) r.0
+    ∙ ap (λ m. Some (at_column BadDecimal m)) (sym c)
+    ∙ ap Some r.1
+
+-- one of several is the first
+pub first_is : {X : Type 0} (a r : Option X) (x : X) → a ≡ Some x → option_or a r ≡ Some x
+first_is a r x e = ap (λ o. option_or o r) e
+
+pub second_is : {X : Type 0} (a b r : Option X) (x : X) → a ≡ None → b ≡ Some x → option_or a (option_or b r) ≡ Some x
+second_is a b r x e f = ap (λ o. option_or o (option_or b r)) e ∙ ap (λ o. option_or o r) f
+
+pub third_is : {X : Type 0} (a b c r o : Option X) → a ≡ None → b ≡ None → c ≡ o → option_or a (option_or b (option_or c r)) ≡ option_or o r
+third_is a b c r o e f g = ap (λ u. option_or u (option_or b (option_or c r))) e ∙ ap (λ u. option_or u (option_or c r)) f ∙ ap (λ u. option_or u r) g
 
 -- a row of a wrong length has no other flaw
 pub unsized_flaw : (row : List ℕ) (f : Flaw) → length_flaw row ≡ Some f → row_flaw row ≡ Some f
 unfolding row_flaw
-unsized_flaw row f e =
-    ap (λ o. option_or o (option_or (decimal_flaw 1 (decimal_in (number_field row)))
-    (option_or (decimal_flaw 4 (points_in (points_field row)))
-    (option_or (decimal_flaw 9 (decimal_in (lag_field row))) (first_of (keyword_flaws row)))))) e
+unsized_flaw row f e = first_is _ _ f e
 
 pub sized_flaw : (row : List ℕ) → length_flaw row ≡ None → row_flaw row
     ≡ option_or (decimal_flaw 1 (decimal_in (number_field row)))
@@ -83,13 +103,6 @@ sized_flaw row e =
     ap (λ o. option_or o (option_or (decimal_flaw 1 (decimal_in (number_field row)))
     (option_or (decimal_flaw 4 (points_in (points_field row)))
     (option_or (decimal_flaw 9 (decimal_in (lag_field row))) (first_of (keyword_flaws row)))))) e
-
--- one of several is the first
-pub second_is : {X : Type 0} (a b r : Option X) (x : X) → a ≡ None → b ≡ Some x → option_or a (option_or b r) ≡ Some x
-second_is a b r x e f = ap (λ o. option_or o (option_or b r)) e ∙ ap (λ o. option_or o r) f
-
-pub third_is : {X : Type 0} (a b c r o : Option X) → a ≡ None → b ≡ None → c ≡ o → option_or a (option_or b (option_or c r)) ≡ option_or o r
-third_is a b c r o e f g = ap (λ u. option_or u (option_or b (option_or c r))) e ∙ ap (λ u. option_or u (option_or c r)) f ∙ ap (λ u. option_or u r) g
 
 -- one keyword more
 pub counting_more : (n : ℕ) → range_with_len 0 (n + 1) ≡ range_with_len 0 n ++ n ∷ []
@@ -119,7 +132,7 @@ blank_at row k column field o e c h = ap (λ j. blank_flaw j (between_field row 
 
 pub flawed_gap : (row : List ℕ) (k : ℕ) (f : Flaw) → gap_flaw row k ≡ Some f → keyword_flaw row k ≡ Some f
 unfolding keyword_flaw
-flawed_gap row k f e = ap (λ o. option_or o (option_or (blank_flaw (16 + 21 * k) (between_field row k)) (letter_flaw (17 + 21 * k) (letter_field row k)))) e
+flawed_gap row k f e = first_is _ _ f e
 
 pub flawed_blank : (row : List ℕ) (k column : ℕ) (field : List ℕ) (f : Flaw) → gap_flaw row k ≡ None
     → field ≡ between_field row k → column ≡ 16 + 21 * k → Some f ≡ blank_flaw column field → keyword_flaw row k ≡ Some f

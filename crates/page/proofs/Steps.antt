@@ -1,11 +1,10 @@
 -- Fields read byte by byte: one byte on, and the end.
 use Rattle.std.proofs.Common.{◌≡◌, ℕ, ◌+◌, ◌-◌, ◌*◌, ◌^◌, ◌<◌, ◌≤◌, true, cond, ◌&&◌, List, length, get_or, drop, ℤ, Some, None, Option, MatchOption, sym, ap, ◌∙◌, add-one, arith}
 use native.Mathlib.Nat.{pow-succ', pow-le-pow_right}
-use Rattle.std.specs.List.{list_all, prefix_len}
-use Rattle.std.proofs.lemmas.List.{at_drop_more, at_drop_all, get_or-drop, drop-drop}
-use Rattle.std.proofs.lemmas.Bool.{cond-true, cond-false, eq-eqb, ne_eqb}
+use Rattle.std.specs.List.{list_all}
+use Rattle.std.proofs.lemmas.List.{at_drop_more, at_drop_all}
+use Rattle.std.proofs.lemmas.Bool.{cond-true, eq-eqb}
 use Rattle.std.proofs.lemmas.Bool.Decides.{nat_tests}
-use Rattle.book.specs.Rules.{gap_ok}
 use Rattle.page.specs.Bytes.{is_blank, is_digit, blanks}
 use Rattle.page.specs.Decimals.{value_after, whole_of, below_zero, signed_of}
 

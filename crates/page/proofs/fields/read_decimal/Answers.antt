@@ -1,5 +1,4 @@
-use Rattle.std.proofs.Common.{rules, arith}
-use Rattle.std.proofs.lemmas.Grind.{common_steps}
+use Rattle.std.proofs.Common.{rules}
 use Rattle.page.specs.Decimals.{decimal_in}
 use Rattle.page.proofs.fields.read_decimal.Goals as goal
 

@@ -1,4 +1,4 @@
-use Rattle.std.proofs.Common.{drop, length, sym, ap, ◌∙◌, rules, arith}
+use Rattle.std.proofs.Common.{ap, ◌∙◌, rules}
 use Rattle.std.proofs.lemmas.List.{take_rest}
 use Rattle.page.specs.Decimals.{points_in, whole_of, signed_of}
 use Rattle.page.proofs.Steps.{minus_read}

@@ -1,5 +1,5 @@
-use Rattle.std.proofs.Common.{◌≡◌, ◌+◌, ◌<◌, length, Err, sym, ap, ◌∙◌, arith}
-use Rattle.std.proofs.lemmas.Bool.{eqb-true, eqb-false}
+use Rattle.std.proofs.Common.{◌≡◌, ◌+◌, length, Err, sym, ap, ◌∙◌, arith}
+use Rattle.std.proofs.lemmas.Bool.{eqb-true}
 use Rattle.book.specs.Entering.{enter_answer, entered, cells_after}
 use Rattle.book.specs.Stored.{open_book}
 use Rattle.page.specs.Columns.{keywords_in}
@@ -22,8 +22,7 @@ rows-preserved c =
     let cells = c.rows.book.cells.now in
     let d = c.blocks-2.draft in
     let inv = c.rows.invariant in
-    let some = eqb-false (length rest) 0 (sym c.if-is_empty.ensures) in
-    let split = split_off rest row behind (omega arith) c.split_row.ensures.row c.split_row.ensures.rest in
+    let split = split_off rest row behind c.if-is_empty.ensures c.split_row.ensures.row c.split_row.ensures.rest in
     let same : d.row.bytes.now ≡ row = c.blocks-2.invariant ∙ c.in-Ok.ensures.0 in
     let whole : length d.lengths.items ≡ keywords_in (length d.row.bytes.now) = eqb-true _ _ (sym c.if-is_whole.ensures) in
     let flaw = row_told b (length cells) row d same whole ∙ sym c.in_default-enter_draft.ensures.answer in
@@ -39,8 +38,7 @@ rows-preserved c =
 
 pub rows-smaller : goal.rows-smaller
 rows-smaller c =
-    let some = eqb-false (length c.rows.rest.now) 0 (sym c.if-is_empty.ensures) in
-    let split = split_off c.rows.rest.now _ c.split_row.result.1.now (omega arith) c.split_row.ensures.row c.split_row.ensures.rest in
+    let split = split_off c.rows.rest.now _ c.split_row.result.1.now c.if-is_empty.ensures c.split_row.ensures.row c.split_row.ensures.rest in
     omega arith
 
 pub returns-then-is_empty : goal.returns-then-is_empty
@@ -61,8 +59,7 @@ returns-in-Err c =
     let rest = c.rows.rest.now in
     let row = c.split_row.result.0.now in
     let b = c.rows.book in
-    let some = eqb-false (length rest) 0 (sym c.if-is_empty.ensures) in
-    let split = split_off rest row c.split_row.result.1.now (omega arith) c.split_row.ensures.row c.split_row.ensures.rest in
+    let split = split_off rest row c.split_row.result.1.now c.if-is_empty.ensures c.split_row.ensures.row c.split_row.ensures.rest in
     let e = stopped c.rows.number row _ _ (open_book b) b.cells.now _ c.in-Err.flaw c.rows.invariant.0 split.0
     (row_own (open_book b) (length b.cells.now) row c.in-Err.flaw c.in-Err.ensures) in
     record {
@@ -79,8 +76,7 @@ returns-in-Err-read_keyword c =
     let rest = c.rows.rest.now in
     let row = c.split_row.result.0.now in
     let b = c.rows.book in
-    let some = eqb-false (length rest) 0 (sym c.if-is_empty.ensures) in
-    let split = split_off rest row c.split_row.result.1.now (omega arith) c.split_row.ensures.row c.split_row.ensures.rest in
+    let split = split_off rest row c.split_row.result.1.now c.if-is_empty.ensures c.split_row.ensures.row c.split_row.ensures.rest in
     let f = c.in-Err-read_keyword.flaw in
     let same : c.blocks-2.draft.row.bytes.now ≡ row = c.blocks-2.invariant ∙ c.in-Ok.ensures.0 in
     let e = stopped c.rows.number row _ _ (open_book b) b.cells.now _ f c.rows.invariant.0 split.0
@@ -103,8 +99,7 @@ returns-in-Err-enter_draft c =
     let d = c.blocks-2.draft in
     let f = c.in-Err-enter_draft.flaw in
     let told = c.in-Err-enter_draft.ensures in
-    let some = eqb-false (length rest) 0 (sym c.if-is_empty.ensures) in
-    let split = split_off rest row c.split_row.result.1.now (omega arith) c.split_row.ensures.row c.split_row.ensures.rest in
+    let split = split_off rest row c.split_row.result.1.now c.if-is_empty.ensures c.split_row.ensures.row c.split_row.ensures.rest in
     let same : d.row.bytes.now ≡ row = c.blocks-2.invariant ∙ c.in-Ok.ensures.0 in
     let whole : length d.lengths.items ≡ keywords_in (length d.row.bytes.now) = eqb-true _ _ (sym c.if-is_whole.ensures) in
     let flaw = row_told b (length cells) row d same whole ∙ sym told.answer in

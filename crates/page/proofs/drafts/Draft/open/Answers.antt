@@ -1,10 +1,8 @@
-use Rattle.std.proofs.Common.{◌≡◌, ℕ, List, length, Some, None, sym, refl, ap, ◌∙◌, drop, rules, arith}
+use Rattle.std.proofs.Common.{◌≡◌, ℕ, List, length, None, sym, refl, ap, ◌∙◌, drop, rules, arith}
 use Rattle.std.proofs.lemmas.Result.{err_from_is_err_and}
-use Rattle.std.specs.Option.{option_or}
 use Rattle.page.specs.Decimals.{decimal_in, points_in}
-use Rattle.page.specs.Columns.{from_column, number_field, points_field, lag_field}
 use Rattle.page.specs.Flaws.{length_flaw, decimal_flaw, keyword_flaws, first_of}
-use Rattle.page.proofs.Fieldwork.{decimal_read, decimal_missed, unsized_flaw, sized_flaw, second_is, third_is}
+use Rattle.page.proofs.Fieldwork.{field_read, field_missed, unsized_flaw, sized_flaw, first_is, second_is, third_is}
 use Rattle.page.proofs.drafts.Draft.open.Goals as goal
 
 pub returns-in_err-row : goal.returns-in_err-row
@@ -17,39 +15,35 @@ returns-in_err-number c =
     let p = err_from_is_err_and c.from_residual-in_err-number.result c.from_residual-in_err-number.ensures.1 in
     let row = c.args.bytes.now in
     let same = c.in_ok-row.ensures.0 in
-    let n = decimal_missed (decimal_in (number_field row)) (decimal_in c.field.result.bytes.now) 1 _ _ (ap decimal_in (c.field.ensures.bytes ∙ ap (from_column 1 3) same)) c.field.ensures.column c.in_err-number.ensures in
-    rw (p.1, p.2) (
-    sized_flaw row c.in_ok-row.ensures.1
-    ∙ ap (λ o. option_or o (option_or (decimal_flaw 4 (points_in (points_field row))) (option_or (decimal_flaw 9 (decimal_in (lag_field row))) (first_of (keyword_flaws row))))) n
-    )
+    let n = field_missed decimal_in 1 3 row _ c.field.result.bytes.now _ _ c.field.ensures.bytes same c.field.ensures.column c.in_err-number.ensures in
+    rw (p.1, p.2) (sized_flaw row c.in_ok-row.ensures.1 ∙ first_is _ _ _ n)
 
 pub returns-in_err-points : goal.returns-in_err-points
 returns-in_err-points c =
     let p = err_from_is_err_and c.from_residual-in_err-points.result c.from_residual-in_err-points.ensures.1 in
     let row = c.args.bytes.now in
     let same = c.in_ok-row.ensures.0 in
-    let n = ap (decimal_flaw 1) (decimal_read (decimal_in (number_field row)) (decimal_in c.field.result.bytes.now) _ c.in_ok-number.number (ap decimal_in (c.field.ensures.bytes ∙ ap (from_column 1 3) same)) c.in_ok-number.ensures) in
-    let q = decimal_missed (points_in (points_field row)) (points_in c.field-2.result.bytes.now) 4 _ _ (ap points_in (c.field-2.ensures.bytes ∙ ap (from_column 4 5) same)) c.field-2.ensures.column c.in_err-points.ensures in
-    rw (p.1, p.2) (sized_flaw row c.in_ok-row.ensures.1 ∙ second_is _ _ _ _ n q)
+    let n = field_read decimal_in 1 3 row _ c.field.result.bytes.now _ _ c.field.ensures.bytes same c.in_ok-number.ensures in
+    let q = field_missed points_in 4 5 row _ c.field-2.result.bytes.now _ _ c.field-2.ensures.bytes same c.field-2.ensures.column c.in_err-points.ensures in
+    rw (p.1, p.2) (sized_flaw row c.in_ok-row.ensures.1 ∙ second_is _ _ _ _ (ap (decimal_flaw 1) n) q)
 
 pub returns-in_err-lag : goal.returns-in_err-lag
 returns-in_err-lag c =
     let p = err_from_is_err_and c.from_residual-in_err-lag.result c.from_residual-in_err-lag.ensures.1 in
     let row = c.args.bytes.now in
     let same = c.in_ok-row.ensures.0 in
-    let n = ap (decimal_flaw 1) (decimal_read (decimal_in (number_field row)) (decimal_in c.field.result.bytes.now) _ c.in_ok-number.number (ap decimal_in (c.field.ensures.bytes ∙ ap (from_column 1 3) same)) c.in_ok-number.ensures) in
-    let q = ap (decimal_flaw 4) (decimal_read (points_in (points_field row)) (points_in c.field-2.result.bytes.now) _ c.in_ok-points.points (ap points_in (c.field-2.ensures.bytes ∙ ap (from_column 4 5) same)) c.in_ok-points.ensures) in
-    let l = decimal_missed (decimal_in (lag_field row)) (decimal_in c.field-3.result.bytes.now) 9 _ _ (ap decimal_in (c.field-3.ensures.bytes ∙ ap (from_column 9 3) same)) c.field-3.ensures.column c.in_err-lag.ensures in
-    rw (p.1, p.2) (sized_flaw row c.in_ok-row.ensures.1 ∙ third_is _ _ _ _ _ n q l)
+    let n = field_read decimal_in 1 3 row _ c.field.result.bytes.now _ _ c.field.ensures.bytes same c.in_ok-number.ensures in
+    let q = field_read points_in 4 5 row _ c.field-2.result.bytes.now _ _ c.field-2.ensures.bytes same c.in_ok-points.ensures in
+    let l = field_missed decimal_in 9 3 row _ c.field-3.result.bytes.now _ _ c.field-3.ensures.bytes same c.field-3.ensures.column c.in_err-lag.ensures in
+    rw (p.1, p.2) (sized_flaw row c.in_ok-row.ensures.1 ∙ third_is _ _ _ _ _ (ap (decimal_flaw 1) n) (ap (decimal_flaw 4) q) l)
 
 pub invariant_of-result : goal.invariant_of-result
 invariant_of-result c =
     let row = c.in_ok-row.row.bytes.now in
-    let n = decimal_read (decimal_in (number_field row)) (decimal_in c.field.result.bytes.now) _ c.in_ok-number.number (ap decimal_in c.field.ensures.bytes) c.in_ok-number.ensures in
-    let q = decimal_read (points_in (points_field row)) (points_in c.field-2.result.bytes.now) _ c.in_ok-points.points (ap points_in c.field-2.ensures.bytes) c.in_ok-points.ensures in
-    let l = decimal_read (decimal_in (lag_field row)) (decimal_in c.field-3.result.bytes.now) _ c.in_ok-lag.lag (ap decimal_in c.field-3.ensures.bytes) c.in_ok-lag.ensures in
-    let same = c.in_ok-row.ensures.0 in
-    let sized : length_flaw row ≡ None = ap length_flaw same ∙ c.in_ok-row.ensures.1 in
+    let n = field_read decimal_in 1 3 row _ c.field.result.bytes.now _ _ c.field.ensures.bytes refl c.in_ok-number.ensures in
+    let q = field_read points_in 4 5 row _ c.field-2.result.bytes.now _ _ c.field-2.ensures.bytes refl c.in_ok-points.ensures in
+    let l = field_read decimal_in 9 3 row _ c.field-3.result.bytes.now _ _ c.field-3.ensures.bytes refl c.in_ok-lag.ensures in
+    let sized : length_flaw row ≡ None = ap length_flaw c.in_ok-row.ensures.0 ∙ c.in_ok-row.ensures.1 in
     let f = sized_flaw row sized ∙ third_is _ _ _ _ _ (ap (decimal_flaw 1) n) (ap (decimal_flaw 4) q) (ap (decimal_flaw 9) l) in
     let none = c.new-2.ensures in
     let no_gaps = c.new-3.ensures in
