@@ -1,6 +1,6 @@
 -- Fields read byte by byte: one byte on, and the end.
 use Rattle.std.proofs.Common.{◌≡◌, ℕ, ◌+◌, ◌-◌, ◌*◌, ◌^◌, ◌<◌, ◌≤◌, true, cond, ◌&&◌, List, length, get_or, drop, ℤ, Some, None, Option, MatchOption, sym, ap, ◌∙◌, add-one, arith}
-use native.Mathlib.Nat.{pow-succ', pow-le-pow_right}
+use native.Mathlib.Nat.{pow-succ'}
 use Rattle.std.specs.List.{list_all}
 use Rattle.std.proofs.lemmas.List.{at_drop_more, at_drop_all}
 use Rattle.std.proofs.lemmas.Bool.{cond-true, eq-eqb}
@@ -30,9 +30,6 @@ digits_end f i h = at_drop_all (list_all is_digit) f i h
 
 pub ten_more : (i : ℕ) → 10 ^ (i + 1) ≡ 10 * 10 ^ i
 ten_more i = rw (add-one i) (pow-succ' 10 i)
-
-pub ten_most : (i k : ℕ) → i ≤ k → 10 ^ i ≤ 10 ^ k
-ten_most i k h = pow-le-pow_right {n = 10} (omega arith) h
 
 pub digit_is : (b : ℕ) → is_digit b ≡ true → (48 ≤ b) × (b ≤ 57)
 digit_is b e = (grind (arith, nat_tests), grind (arith, nat_tests))

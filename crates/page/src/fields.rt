@@ -109,7 +109,7 @@ pub(crate) fn first_bad(field: &[u8], letters: usize) -> Option<usize>
     if letters == 0 {
         return Some(0);
     }
-    // The byte that refusal 23 is told at comes out of the loop by break.
+    // A loop that is left by break, with the byte at which refusal 23 is told.
     let mut column = letters;
     loop {
         if column == field.len() {

@@ -38,7 +38,7 @@ pub fn enter_page(book: &mut OpenBook<'_, LetterCell>, page: &[u8]) -> Result<()
 {
     let mut rest = page;
     let mut number = 1;
-    // The rows and the blocks of their keywords are nested loops, left by label.
+    // The rows and the blocks of their keywords are nested loops, which a flaw leaves by label.
     'rows: loop {
         if rest.is_empty() {
             break 'rows Ok(());

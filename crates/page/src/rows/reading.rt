@@ -92,7 +92,7 @@ impl Field<'_> {
         read_decimal(self.bytes).ok_or(flaw(Refusal::BadDecimal, self.column))
     }
 
-    // The points in it.
+    // The points in it. The line is that of `decimal`, with another reading; a third function for both would be longer.
     pub(crate) fn points(&self) -> Result<i32, Flaw>
         requires { length self.now.bytes.now ≤ 5 }
         ensures { result ≡ ok_or (points_in self.now.bytes.now) (at_column BadDecimal self.now.column) }
