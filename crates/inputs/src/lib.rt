@@ -12,9 +12,10 @@ fn before_empty_row(input: &[u8]) -> usize
     ensures value { result ≡ page_length true input.now }
     ensures within { result ≤ length input.now }
 {
+    // A loop, since what a byte closes depends on the byte before it.
     let mut at_start = true;
-    for i in 0..input.len() {
-        let closes = input[i] == CLOSE;
+    for (i, byte) in input.iter().enumerate() {
+        let closes = *byte == CLOSE;
         if at_start && closes {
             return i;
         }
@@ -28,12 +29,7 @@ fn before_close(input: &[u8]) -> usize
     ensures value { result ≡ row_length input.now }
     ensures within { result ≤ length input.now }
 {
-    for i in 0..input.len() {
-        if input[i] == CLOSE {
-            return i;
-        }
-    }
-    input.len()
+    input.iter().take_while(|byte| **byte != CLOSE).count()
 }
 
 // The first so many bytes, and those past the byte behind them.
@@ -42,9 +38,7 @@ fn cut(input: &[u8], at: usize) -> (&[u8], &[u8])
     ensures front { result.0.now ≡ take at input.now }
     ensures back { result.1.now ≡ drop (at + 1) input.now }
 {
-    let (front, back) = input.split_at(at);
-    let (_, rest) = back.split_at(back.len().min(1));
-    (front, rest)
+    (&input[..at], input.get(at + 1..).unwrap_or_default())
 }
 
 /// A page up to an empty row, which is not part of it, and what lies behind that row.

@@ -1,5 +1,5 @@
 -- A line written as a row is read back.
-use Rattle.std.proofs.Common.{◌≡◌, ℕ, zero, suc, ◌+◌, ◌-◌, ◌*◌, ◌/◌, ◌<◌, ◌≤◌, true, ◌&&◌, leb, List, [], ◌∷◌, ◌++◌, map, length, get_or, take, drop, replicate, ℤ, pos, negsuc, Some, None, decimal, Option, unwrap_or, sym, refl, ap, ◌∙◌, arith}
+use Rattle.std.proofs.Common.{◌≡◌, ℕ, zero, suc, ◌+◌, ◌-◌, ◌*◌, ◌/◌, ◌<◌, ◌≤◌, true, cond, ◌&&◌, leb, List, [], ◌∷◌, ◌++◌, map, length, get_or, take, drop, replicate, ℤ, pos, negsuc, Some, None, decimal, Option, unwrap_or, sym, refl, ap, ◌∙◌, arith}
 use native.Mathlib.Nat.{mul-div_cancel_left}
 use lib.Signed.{mag}
 use Rattle.std.proofs.lemmas.List.FromFn.{fill_by_all}
@@ -9,7 +9,7 @@ use Rattle.std.proofs.lemmas.Bool.{and_parts, and_from, leb-true, le-leb, eq-eqb
 use Rattle.std.specs.List.{range_with_len, flat_map, list_all}
 use Rattle.std.specs.Option.{option_map}
 use Rattle.std.specs.Fmt.{signed_decimal}
-use Rattle.refusals.specs.declared.Refusal.TheVariants.{BadKeyword}
+use Rattle.refusals.specs.declared.Refusal.TheVariants.{RowLength, BadKeyword}
 use Rattle.cells.specs.declared.letters.LetterCell.{LetterCell}
 use Rattle.book.specs.Book.{Line}
 use Rattle.book.specs.Cutting.{cut}
@@ -156,7 +156,7 @@ module _ (l : Line LetterCell) (ok : ProperLine l) where
       ap decimal_in (gap_there (suc j) u ∙ ap (right 4) (get_or-map decimal l.gaps j 0 [] h)) ∙ decimal_back 4 g (omega (arith, few))
 
   gap_clean : (k : ℕ) → k < length l.keywords → gap_flaw (row_of l) k ≡ None
-  gap_clean zero u = gap_first (row_of l) 0 refl ∙ ap (blank_flaw 12) (gap_there zero u)
+  gap_clean zero u = gap_first (row_of l) 0 12 (gap_field (row_of l) 0) refl refl refl ∙ ap (blank_flaw 12) (gap_there zero u)
   gap_clean (suc j) u = gap_later (row_of l) (suc j) (λ e. omega arith) ∙ ap (decimal_flaw (12 + 21 * suc j)) (gap_read j u)
 
   gap_value : (k : ℕ) → k < length l.keywords → get_or (0 ∷ l.gaps) k 0 ≡ gap_of (row_of l) k
@@ -171,9 +171,10 @@ module _ (l : Line LetterCell) (ok : ProperLine l) where
   keyword_clean k u =
       let w = get_or l.keywords k [] in
       let p = pass_at proper l.keywords k [] u ok.lengths in
-      flawed_letters (row_of l) k (gap_clean k u) (ap (blank_flaw (16 + 21 * k)) (blank_there k u))
-      ∙ ap (letter_flaw (17 + 21 * k)) (letters_there k u)
-      ∙ ap (option_map (λ i. at_column BadKeyword (17 + 21 * k + i))) (good_letters w (proper_some w p) (proper_few w p))
+      flawed_letters (row_of l) k (16 + 21 * k) (17 + 21 * k) (between_field (row_of l) k) (letter_field (row_of l) k) None (gap_clean k u) refl refl
+      (sym (ap (blank_flaw (16 + 21 * k)) (blank_there k u))) refl refl
+      (ap (letter_flaw (17 + 21 * k)) (letters_there k u)
+      ∙ ap (option_map (λ i. at_column BadKeyword (17 + 21 * k + i))) (good_letters w (proper_some w p) (proper_few w p)))
 
   -- the readings before the keywords
   number_read : decimal_in (number_field (row_of l)) ≡ Some l.number
@@ -197,7 +198,7 @@ module _ (l : Line LetterCell) (ok : ProperLine l) where
   pub clean_row : row_flaw (row_of l) ≡ None
   clean_row =
       let n = keywords_in (length (row_of l)) in
-      sized_flaw (row_of l) sized
+      sized_flaw (row_of l) (ap (λ b. cond b None (Some (at_column RowLength (length (row_of l) + 1)))) sized)
       ∙ third_is _ _ _ _ _ (ap (decimal_flaw 1) number_read) (ap (decimal_flaw 4) points_read) (ap (decimal_flaw 9) lag_read)
       ∙ ap first_of (sym (fill_by_all (keyword_flaw (row_of l)) (replicate {A = Option Flaw} n None) n None (length-replicate {A = Option Flaw} n None) (λ k u. get_or-replicate {A = Option Flaw} n k None None u ∙ sym (keyword_clean k (within k u)))))
       ∙ none_of n

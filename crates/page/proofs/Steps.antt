@@ -1,13 +1,12 @@
 -- Fields read byte by byte: one byte on, and the end.
-use Rattle.std.proofs.Common.{◌≡◌, ℕ, ◌+◌, ◌-◌, ◌*◌, ◌^◌, ◌<◌, ◌≤◌, true, cond, ◌&&◌, List, length, get_or, drop, sym, ap, ◌∙◌, add-one, arith}
-use native.Mathlib.Nat.{pow-succ', pow-le-pow_right}
-use Rattle.std.specs.List.{list_all, prefix_len}
-use Rattle.std.proofs.lemmas.List.{at_drop_more, at_drop_all, get_or-drop, drop-drop}
-use Rattle.std.proofs.lemmas.Bool.{cond-true, cond-false, eq-eqb, ne_eqb}
+use Rattle.std.proofs.Common.{◌≡◌, ℕ, ◌+◌, ◌-◌, ◌*◌, ◌^◌, ◌<◌, ◌≤◌, true, cond, ◌&&◌, List, length, get_or, drop, ℤ, Some, None, Option, MatchOption, sym, ap, ◌∙◌, add-one, arith}
+use native.Mathlib.Nat.{pow-succ'}
+use Rattle.std.specs.List.{list_all}
+use Rattle.std.proofs.lemmas.List.{at_drop_more, at_drop_all}
+use Rattle.std.proofs.lemmas.Bool.{cond-true, eq-eqb}
 use Rattle.std.proofs.lemmas.Bool.Decides.{nat_tests}
-use Rattle.book.specs.Rules.{gap_ok}
 use Rattle.page.specs.Bytes.{is_blank, is_digit, blanks}
-use Rattle.page.specs.Decimals.{value_after, whole_of, below_zero, not_below, points_in}
+use Rattle.page.specs.Decimals.{value_after, whole_of, below_zero, signed_of}
 
 pub blanks_step : (f : List ℕ) (i : ℕ) → i < length f → blanks (drop i f) ≡ cond (is_blank (get_or f i 0)) (1 + blanks (drop (i + 1) f)) 0
 blanks_step f i h = at_drop_more blanks f i 0 h
@@ -32,28 +31,11 @@ digits_end f i h = at_drop_all (list_all is_digit) f i h
 pub ten_more : (i : ℕ) → 10 ^ (i + 1) ≡ 10 * 10 ^ i
 ten_more i = rw (add-one i) (pow-succ' 10 i)
 
-pub ten_most : (i k : ℕ) → i ≤ k → 10 ^ i ≤ 10 ^ k
-ten_most i k h = pow-le-pow_right {n = 10} (omega arith) h
-
 pub digit_is : (b : ℕ) → is_digit b ≡ true → (48 ≤ b) × (b ≤ 57)
 digit_is b e = (grind (arith, nat_tests), grind (arith, nat_tests))
 
--- the first byte behind the blanks, and what follows it
-pub points_minus : (f : List ℕ) (n : ℕ) → n ≡ blanks f → get_or f n 0 ≡ 45 → points_in f ≡ below_zero (whole_of (drop (n + 1) f))
-unfolding points_in
-points_minus f n e h =
-    let g : get_or (drop (blanks f) f) 0 0 ≡ 45 = get_or-drop (blanks f) f 0 0 ∙ ap (λ i. get_or f i 0) (omega arith) ∙ h in
-    let d : drop 1 (drop (blanks f) f) ≡ drop (n + 1) f = drop-drop 1 (blanks f) f ∙ ap (λ i. drop i f) (omega arith) in
-    cond-true _ _ _ (eq-eqb _ _ g) ∙ ap (λ bs. below_zero (whole_of bs)) d
-
-pub points_plain : (f : List ℕ) (n : ℕ) → n ≡ blanks f → (get_or f n 0 ≡ 45 → ⊥) → points_in f ≡ not_below (whole_of (drop n f))
-unfolding points_in
-points_plain f n e h =
-    let g : get_or (drop (blanks f) f) 0 0 ≡ get_or f n 0 = get_or-drop (blanks f) f 0 0 ∙ ap (λ i. get_or f i 0) (omega arith) in
-    cond-false _ _ _ (ne_eqb _ _ (λ m. h (sym g ∙ m))) ∙ ap (λ i. not_below (whole_of (drop i f))) (sym e)
-
-pub fitting_step : (gaps : List ℕ) (i : ℕ) → i < length gaps → prefix_len gap_ok (drop i gaps) ≡ cond (gap_ok (get_or gaps i 0)) (1 + prefix_len gap_ok (drop (i + 1) gaps)) 0
-fitting_step gaps i h = at_drop_more (prefix_len gap_ok) gaps i 0 h
-
-pub fitting_end : (gaps : List ℕ) (i : ℕ) → length gaps ≤ i → prefix_len gap_ok (drop i gaps) ≡ 0
-fitting_end gaps i h = at_drop_all (prefix_len gap_ok) gaps i h
+-- a minus in front, and the number behind it
+pub minus_read : (bytes : List ℕ) (o : Option ℕ) (r : Option ℤ) → get_or bytes 0 0 ≡ 45 → o ≡ whole_of (drop 1 bytes)
+    → MatchOption o (r ≡ None) (λ n. r ≡ below_zero (Some n)) → r ≡ signed_of bytes
+minus_read bytes None r h e m = m ∙ ap below_zero e ∙ sym (cond-true _ _ _ (eq-eqb _ _ h))
+minus_read bytes (Some n) r h e m = m ∙ ap below_zero e ∙ sym (cond-true _ _ _ (eq-eqb _ _ h))

@@ -1,8 +1,7 @@
 -- One row of a page after another.
-use Rattle.std.proofs.Common.{◌≡◌, ℕ, ◌+◌, ◌<◌, ◌≤◌, cond, List, [], ◌∷◌, length, drop, ℤ, pos, is_ok, Some, None, Ok, Err, Result, unwrap_or, sym, refl, ap, ◌∙◌, inl, inr, arith}
+use Rattle.std.proofs.Common.{◌≡◌, ℕ, ◌+◌, cond, List, [], ◌∷◌, length, drop, ℤ, pos, is_ok, Some, None, Ok, Err, Result, unwrap_or, sym, refl, ap, ◌∙◌, arith}
 use Rattle.std.proofs.lemmas.List.FromFn.{length-map-range_with_len}
-use Rattle.std.proofs.lemmas.List.{at_drop_all, drop_all}
-use Rattle.std.proofs.lemmas.Bool.{cases_lt}
+use Rattle.std.proofs.lemmas.List.{at_drop_all}
 use Rattle.std.specs.Option.{option_or}
 use Rattle.refusals.specs.declared.Refusal.{Refusal}
 use Rattle.cells.specs.declared.letters.LetterCell.{LetterCell}
@@ -11,18 +10,19 @@ use Rattle.book.specs.Entering.{Request, enter_answer, entered, cells_after}
 use Rattle.page.specs.declared.drafts.Draft.{Draft}
 use Rattle.page.specs.declared.faults.Flaw.{Flaw}
 use Rattle.page.specs.Columns.{keywords_in}
-use Rattle.page.specs.Drafts.{draft_request, Drafted}
+use Rattle.page.specs.Drafts.{draft_request}
 use Rattle.page.specs.Flaws.{keyword_flaw, keyword_flaws, first_of, row_flaw}
 use Rattle.page.specs.Page.{Outcome, fault_at, after_row, enter_rows}
 use Rattle.page.specs.Row.{row_request, lengths_up_to, gaps_up_to, cells_up_to}
 use Rattle.page.specs.Rows.{rows_of}
 use Rattle.page.specs.Told.{book_flaw, entry_flaw}
 
--- at the end of the page nothing is left to enter
-pub rows_done : (n : ℕ) (page : List ℕ) (start : ℕ) (b : Book LetterCell) (cells : List LetterCell) → length page ≤ start
-    → enter_rows n (rows_of (drop start page)) b cells ≡ record { answer = Ok tt; book = b; cells = cells }
+-- where no bytes are left nothing is left to enter
+pub rows_done : (n : ℕ) (rest : List ℕ) (b : Book LetterCell) (cells : List LetterCell) → length rest ≡ 0
+    → enter_rows n (rows_of rest) b cells ≡ record { answer = Ok tt; book = b; cells = cells }
 unfolding enter_rows rows_of
-rows_done n page start b cells h = at_drop_all (λ bs. enter_rows n (rows_of bs) b cells) page start h
+rows_done n [] b cells h = refl
+rows_done n (x ∷ xs) b cells h = absurd (omega arith)
 
 -- a flaw stops the page
 pub row_stops : (n : ℕ) (row : List ℕ) (rows : List (List ℕ)) (b : Book LetterCell) (cells : List LetterCell) (f : Flaw)
@@ -45,10 +45,11 @@ unfolding entry_flaw
 row_own b memory row f e = ap (λ o. option_or o (book_flaw (row_request row).gaps (enter_answer b memory (row_request row)))) e
 
 -- a row that has been read whole has no flaw
-pub read_whole : (row : List ℕ) (d : Draft) → Drafted row d → d.keywords ≡ keywords_in (length row) → row_flaw row ≡ None
-read_whole row d drafted e =
+pub read_whole : (d : Draft) → length d.lengths.items ≡ keywords_in (length d.row.bytes.now) → row_flaw d.row.bytes.now ≡ None
+read_whole d e =
+    let row = d.row.bytes.now in
     let l = length-map-range_with_len (keyword_flaw row) 0 (keywords_in (length row)) in
-    drafted.flaw ∙ at_drop_all first_of (keyword_flaws row) d.keywords (omega arith)
+    d.flawless ∙ at_drop_all first_of (keyword_flaws row) (length d.lengths.items) (omega arith)
 
 alike : (n m t u : ℕ) (p q : ℤ) (ls ms gs hs : List ℕ) (cs ds : List LetterCell) → n ≡ m → p ≡ q → t ≡ u → ls ≡ ms → gs ≡ hs → cs ≡ ds
     → ◌≡◌ {A = Request LetterCell}
@@ -57,24 +58,26 @@ alike : (n m t u : ℕ) (p q : ℤ) (ls ms gs hs : List ℕ) (cs ds : List Lette
 alike n m t u p q ls ms gs hs cs ds a b c d e f = cc
 
 -- and the draft holds its line
-pub read_line : (row : List ℕ) (d : Draft) → Drafted row d → d.keywords ≡ keywords_in (length row) → row_request row ≡ draft_request d
+pub read_line : (row : List ℕ) (d : Draft) → d.row.bytes.now ≡ row → length d.lengths.items ≡ keywords_in (length d.row.bytes.now) → row_request row ≡ draft_request d
 unfolding row_request
-read_line row d drafted e =
-    sym (alike _ _ _ _ _ _ _ _ _ _ _ _
-    (sym (ap (λ o. unwrap_or o 0) drafted.number))
-    (sym (ap (λ o. unwrap_or o (pos 0)) drafted.points))
-    (sym (ap (λ o. unwrap_or o 0) drafted.lag))
-    (drafted.lengths ∙ ap (lengths_up_to row) e)
-    (ap (drop 1) (drafted.gaps ∙ ap (gaps_up_to row) e))
-    (drafted.cells ∙ ap (cells_up_to row) e))
+read_line row d same e =
+    let own = d.row.bytes.now in
+    ap row_request (sym same)
+    ∙ sym (alike _ _ _ _ _ _ _ _ _ _ _ _
+    (sym (ap (λ o. unwrap_or o 0) d.number_read))
+    (sym (ap (λ o. unwrap_or o (pos 0)) d.points_read))
+    (sym (ap (λ o. unwrap_or o 0) d.lag_read))
+    (d.lengths_read ∙ ap (lengths_up_to own) e)
+    (ap (drop 1) (d.gaps_read ∙ ap (gaps_up_to own) e))
+    (d.cells_read ∙ ap (cells_up_to own) e))
 
 -- so what is wrong is what the book says of it
-pub row_told : (b : Book LetterCell) (memory : ℕ) (row : List ℕ) (d : Draft) → Drafted row d → d.keywords ≡ keywords_in (length row)
+pub row_told : (b : Book LetterCell) (memory : ℕ) (row : List ℕ) (d : Draft) → d.row.bytes.now ≡ row → length d.lengths.items ≡ keywords_in (length d.row.bytes.now)
     → entry_flaw b memory row ≡ book_flaw (draft_request d).gaps (enter_answer b memory (draft_request d))
 unfolding entry_flaw
-row_told b memory row d drafted e =
-    ap (λ o. option_or o (book_flaw (row_request row).gaps (enter_answer b memory (row_request row)))) (read_whole row d drafted e)
-    ∙ ap (λ (q : Request LetterCell). book_flaw q.gaps (enter_answer b memory q)) (read_line row d drafted e)
+row_told b memory row d same e =
+    ap (λ o. option_or o (book_flaw (row_request row).gaps (enter_answer b memory (row_request row)))) (ap row_flaw (sym same) ∙ read_whole d e)
+    ∙ ap (λ (q : Request LetterCell). book_flaw q.gaps (enter_answer b memory q)) (read_line row d same e)
 
 -- a refusal by the book changes nothing
 pub refused_stays : {X : Type 0} (gaps : List ℕ) (a : Result (Unit {0}) Refusal) (f : Flaw) (x y : X) → book_flaw gaps a ≡ Some f → cond (is_ok a) x y ≡ y
@@ -87,18 +90,3 @@ pub stopped : (n : ℕ) (row : List ℕ) (left rest : List (List ℕ)) (b : Book
     → all ≡ record { answer = Err (fault_at n f); book = b; cells = cells }
 stopped n row left rest b cells all f inv e flaw =
     sym inv ∙ ap (λ rows. enter_rows n rows b cells) e ∙ row_stops n row rest b cells f flaw
-
--- where the next row starts
-pub next_rows : (page : List ℕ) (end next : ℕ) → (end < length page → next ≡ end + 1) → (length page ≤ end → next ≡ end) → drop next page ≡ drop (end + 1) page
-next_rows page end next behind last =
-    elim (cases_lt end (length page)) [
-      | inl h ↦ ap (λ k. drop k page) (behind h)
-      | inr h ↦ let e = last h in drop_all next page (omega arith) ∙ sym (drop_all (end + 1) page (omega arith))
-    ]
-
-pub next_further : (start size end next : ℕ) → start < size → start ≤ end → (end < size → next ≡ end + 1) → (size ≤ end → next ≡ end) → start < next
-next_further start size end next h from behind last =
-    elim (cases_lt end size) [
-      | inl l ↦ let e = behind l in omega arith
-      | inr l ↦ let e = last l in omega arith
-    ]

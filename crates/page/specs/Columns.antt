@@ -1,5 +1,5 @@
 -- The columns of a row. Columns count from 1, keywords from 0.
-use Rattle.std.specs.Prelude.{ℕ, ◌+◌, ◌-◌, ◌*◌, ◌/◌, Bool, ◌&&◌, List, take, drop, ◌==◌}
+use Rattle.std.specs.Prelude.{◌≡◌, ℕ, ◌+◌, ◌-◌, ◌*◌, ◌/◌, ◌≤◌, Bool, ◌&&◌, List, length, take, drop, ◌==◌}
 use Rattle.book.specs.Rules.{count_ok}
 
 -- so many bytes of a row, from a column on
@@ -34,3 +34,9 @@ keywords_in bytes = (bytes - 11) / 21
 -- a row has 11 + 21 x keywords bytes, for 1 to 16 keywords
 abbrev pub is_row_length : ℕ → Bool
 is_row_length bytes = count_ok (keywords_in bytes) && bytes == 11 + 21 * keywords_in bytes
+
+-- a row of a right length
+pub record Sized (row : List ℕ) : Type 0 where
+  pub exact : length row ≡ 11 + 21 * keywords_in (length row)
+  pub some : 1 ≤ keywords_in (length row)
+  pub few : keywords_in (length row) ≤ 16

@@ -1,5 +1,5 @@
 // How the line of a row is entered.
-ghost use Rattle.std.specs.Prelude.{◌≡◌, ℕ, ◌+◌, ◌≤◌, length};
+ghost use Rattle.std.specs.Prelude.{◌≡◌, ◌≤◌, length, Some, Err};
 ghost use Rattle.std.specs.Result.{result_err};
 ghost use Rattle.std.specs.List.{prefix_len};
 ghost use Rattle.book.specs.Entering.{enter_answer, entered, cells_after};
@@ -22,12 +22,7 @@ fn count_fitting(gaps: &[u16]) -> usize
     ensures count { result ≡ prefix_len gap_ok gaps.now }
     ensures within { result ≤ length gaps.now }
 {
-    for (i, gap) in gaps.iter().enumerate() {
-        if *gap > LONGEST_GAP {
-            return i;
-        }
-    }
-    gaps.len()
+    gaps.iter().take_while(|gap| **gap <= LONGEST_GAP).count()
 }
 
 // The column that a refusal by the book speaks of.
@@ -44,29 +39,37 @@ fn column_of(refusal: Refusal, gaps: &[u16]) -> usize
     }
 }
 
+// The flaw of a line that the book refuses.
+fn refused(refusal: Refusal, gaps: &[u16]) -> Flaw
+    requires { length gaps.now ≤ 15 }
+    ensures { Some result ≡ book_flaw gaps.now (Err refusal) }
+{
+    Flaw {
+        refusal,
+        layer: Layer::Book,
+        column: column_of(refusal, gaps),
+    }
+}
+
 // Enters a line that has been read whole.
-pub(crate) fn enter_draft(book: &mut OpenBook<'_, LetterCell>, draft: &Draft) -> Result<(), Flaw>
-    requires { 1 ≤ draft.now.keywords }
+pub(crate) fn enter_draft(
+    book: &mut OpenBook<'_, LetterCell>,
+    draft: &Draft<'_>,
+) -> Result<(), Flaw>
+    requires { 1 ≤ length draft.now.lengths.items }
     ensures answer { result_err result ≡ book_flaw (draft_request draft.now).gaps (enter_answer (open_book book.old) (places book.old) (draft_request draft.now)) }
     ensures book { open_book book.new ≡ entered (open_book book.old) (places book.old) (draft_request draft.now) }
     ensures memory { book.new.cells.now ≡ cells_after (open_book book.old) book.old.cells.now (draft_request draft.now) }
     ensures lender { book.new.cells.ghost_name ≡ book.old.cells.ghost_name }
 {
-    let gaps = &draft.gaps[1..draft.keywords];
+    let gaps = &draft.gaps[1..];
     let entry = Entry {
         number: draft.number,
         points: draft.points,
         lag: draft.lag,
-        lengths: &draft.lengths[0..draft.keywords],
+        lengths: draft.lengths.as_slice(),
         gaps,
-        cells: &draft.cells[0..draft.letters],
+        cells: draft.cells.as_slice(),
     };
-    match book.enter(entry) {
-        Ok(()) => Ok(()),
-        Err(refusal) => Err(Flaw {
-            refusal,
-            layer: Layer::Book,
-            column: column_of(refusal, gaps),
-        }),
-    }
+    book.enter(entry).map_err(|refusal| refused(refusal, gaps))
 }

@@ -1,32 +1,30 @@
 // How the fields of a row are read.
 ghost use Rattle.std.specs.Prelude.{◌≡◌, ℕ, ◌+◌, ◌^◌, ◌<◌, ◌≤◌, true, ◌++◌, length, take, IfSome, Some};
-ghost use Rattle.page.specs.Bytes.{is_digit, blanks};
+ghost use Rattle.page.specs.Bytes.{blanks, behind_blanks};
 ghost use Rattle.page.specs.Decimals.{begins_well, whole_of, below_zero, decimal_in, points_in};
 ghost use Rattle.page.specs.Letters.{letters_of, bad_letter};
 
+use arrayvec::ArrayVec;
 use cells::letters::LetterCell;
 
 const BLANK: u8 = b' ';
 
 const MINUS: u8 = b'-';
 
-fn is_digit(byte: u8) -> bool
-    ensures { result ≡ is_digit byte }
-{
-    b'0' <= byte && byte <= b'9'
-}
-
 // How many blanks stand first.
 pub(crate) fn count_blanks(field: &[u8]) -> usize
     ensures count { result ≡ blanks field.now }
     ensures within { result ≤ length field.now }
 {
-    for (i, byte) in field.iter().enumerate() {
-        if *byte != BLANK {
-            return i;
-        }
-    }
-    field.len()
+    field.iter().take_while(|byte| **byte == BLANK).count()
+}
+
+// What stands behind the blanks.
+fn skip_blanks(field: &[u8]) -> &[u8]
+    ensures rest { result.now ≡ behind_blanks field.now }
+    ensures within { length result.now ≤ length field.now }
+{
+    &field[count_blanks(field)..]
 }
 
 // Whether digits begin as a number does: a 0 in front stands alone.
@@ -47,7 +45,7 @@ fn read_whole(digits: &[u8]) -> Option<u32>
     }
     let mut value = 0;
     for digit in digits {
-        if !is_digit(*digit) {
+        if !digit.is_ascii_digit() {
             return None;
         }
         value = value * 10 + u32::from(*digit - b'0');
@@ -60,11 +58,7 @@ pub(crate) fn read_decimal(field: &[u8]) -> Option<u16>
     requires { length field.now ≤ 4 }
     ensures { result ≡ decimal_in field.now }
 {
-    let from = count_blanks(field);
-    match read_whole(&field[from..]) {
-        Some(value) => Some(value as u16),
-        None => None,
-    }
+    read_whole(skip_blanks(field)).map(|value| value as u16)
 }
 
 // A number below 0; there is no -0.
@@ -84,34 +78,26 @@ pub(crate) fn read_points(field: &[u8]) -> Option<i32>
     requires { length field.now ≤ 5 }
     ensures { result ≡ points_in field.now }
 {
-    let from = count_blanks(field);
-    if from < field.len() && field[from] == MINUS {
-        match read_whole(&field[from + 1..]) {
-            Some(value) => negated(value),
-            None => None,
-        }
-    } else {
-        match read_whole(&field[from..]) {
-            Some(value) => Some(value as i32),
-            None => None,
-        }
+    match skip_blanks(field) {
+        [MINUS, digits @ ..] => read_whole(digits).and_then(negated),
+        digits => read_whole(digits).map(|value| value as i32),
     }
 }
 
-// Writes the cells of the letters that stand first in a field, from a place on, and counts them.
-pub(crate) fn write_letters(cells: &mut [LetterCell], at: usize, field: &[u8]) -> usize
-    requires { at + length field.now ≤ length cells.old }
-    ensures count { result ≡ length (letters_of field.now) }
-    ensures within { result ≤ length field.now }
-    ensures cells { take (at + result) cells.new ≡ take at cells.old ++ letters_of field.now }
+// The cells of the letters that stand first in a field.
+pub(crate) fn read_letters(field: &[u8]) -> ArrayVec<LetterCell, 16>
+    requires { length field.now ≤ 16 }
+    ensures cells { result.items ≡ letters_of field.now }
+    ensures within { length result.items ≤ length field.now }
 {
-    for i in 0..field.len() {
-        let Ok(cell) = LetterCell::new(field[i]) else {
-            return i;
+    let mut cells = ArrayVec::new();
+    for byte in field {
+        let Ok(cell) = LetterCell::new(*byte) else {
+            break;
         };
-        cells[at + i] = cell;
+        cells.push(cell);
     }
-    field.len()
+    cells
 }
 
 // The position of the first byte that breaks the rule of a letter field, in which so many letters stand first.
@@ -123,8 +109,9 @@ pub(crate) fn first_bad(field: &[u8], letters: usize) -> Option<usize>
     if letters == 0 {
         return Some(0);
     }
+    // A loop that is left by break, with the byte at which refusal 23 is told.
     let mut column = letters;
-    let bad = loop {
+    loop {
         if column == field.len() {
             break None;
         }
@@ -132,6 +119,5 @@ pub(crate) fn first_bad(field: &[u8], letters: usize) -> Option<usize>
             break Some(column);
         }
         column += 1;
-    };
-    bad
+    }
 }

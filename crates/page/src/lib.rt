@@ -6,4 +6,4 @@ mod entering;
 pub mod faults;
 mod fields;
 pub mod pages;
-mod reading;
+mod rows;

@@ -7,18 +7,16 @@ mod tests {
     use cells::letters::LetterCell;
     use page::faults::{Fault, Layer};
     use page::pages::enter_page;
-    use refusals::Refusal;
-    use std::test::Fail;
 
     // Line 5 of the worked example: AB, gap 2, C.
     const FIVE: &[u8] = b"  5   30  0     AB                 2 C               ";
 
     // What is told of a page: number, layer, row and column; nothing but 0 where it was accepted.
-    #[derive(Clone, Copy)]
+    #[derive(Clone, Copy, PartialEq, Debug)]
     struct Told(u8, char, usize, usize);
 
-    impl Told {
-        fn new(answer: Result<(), Fault>) -> Told {
+    impl From<Result<(), Fault>> for Told {
+        fn from(answer: Result<(), Fault>) -> Told {
             match answer {
                 Ok(()) => Told(0, '-', 0, 0),
                 Err(fault) => {
@@ -30,28 +28,26 @@ mod tests {
                 }
             }
         }
-
-        fn is(self, other: Told) -> bool {
-            self.0 == other.0 && self.1 == other.1 && self.2 == other.2 && self.3 == other.3
-        }
     }
 
     // Writes bytes over a row, from a column on.
     fn put(row: &mut [u8], column: usize, bytes: &[u8]) {
-        let mut at = column.saturating_sub(1);
-        for byte in bytes {
-            if at < row.len() {
-                row[at] = *byte;
-                at += 1;
-            }
+        for (place, byte) in row.iter_mut().skip(column.saturating_sub(1)).zip(bytes) {
+            *place = *byte;
         }
     }
 
     // What a book over so many places, at most 48, tells of a page.
-    fn tell(page: &[u8], places: usize) -> Result<Told, Refusal> {
-        let mut memory = [LetterCell::new(b'A')?; 48];
+    fn tell(page: &[u8], places: usize) -> Told {
+        let mut memory = [LetterCell::default(); 48];
         let mut book = OpenBook::new(&mut memory[0..places.min(48)]);
-        Ok(Told::new(enter_page(&mut book, page)))
+        Told::from(enter_page(&mut book, page))
+    }
+
+    // What is told of a row over which bytes are written from a column on.
+    fn tell_changed<const N: usize>(mut row: [u8; N], column: usize, bytes: &str) -> Told {
+        put(&mut row, column, bytes.as_bytes());
+        tell(&row, 48)
     }
 
     // Bytes written over row 5 from a column on, and what is told of it.
@@ -98,14 +94,12 @@ mod tests {
     ];
 
     #[test]
-    fn rows_of_two_keywords(rt: HostRuntime) -> Result<(), Fail> {
+    fn rows_of_two_keywords(rt: HostRuntime) {
+        let mut row = [b' '; 53];
+        put(&mut row, 1, FIVE);
         for (column, bytes, told) in &TWO_KEYWORDS {
-            let mut row = [b' '; 53];
-            put(&mut row, 1, FIVE);
-            put(&mut row, *column, bytes.as_bytes());
-            assert!(rt; tell(&row, 48)?.is(*told), "{}", *bytes);
+            assert_eq!(rt; tell_changed(row, *column, bytes), *told, "{}", *bytes);
         }
-        Ok(())
     }
 
     // Writes keywords of one letter, each behind a gap of 0.
@@ -134,41 +128,37 @@ mod tests {
     ];
 
     #[test]
-    fn rows_of_sixteen_keywords(rt: HostRuntime) -> Result<(), Fail> {
-        for (column, bytes, told) in &SIXTEEN_KEYWORDS {
-            let mut row = [b' '; 347];
-            put_longest(&mut row, 16);
-            put(&mut row, *column, bytes.as_bytes());
-            assert!(rt; tell(&row, 48)?.is(*told), "{}", *bytes);
-        }
+    fn rows_of_sixteen_keywords(rt: HostRuntime) {
         let mut row = [b' '; 347];
         put_longest(&mut row, 16);
-        assert!(rt; tell(&row, 30)?.is(Told(18, 'b', 1, 12)));
-        assert!(rt; tell(&row, 31)?.is(Told(0, '-', 0, 0)));
-        Ok(())
+        for (column, bytes, told) in &SIXTEEN_KEYWORDS {
+            assert_eq!(rt; tell_changed(row, *column, bytes), *told, "{}", *bytes);
+        }
+        assert_eq!(rt; tell(&row, 30), Told(18, 'b', 1, 12));
+        assert_eq!(rt; tell(&row, 31), Told(0, '-', 0, 0));
     }
 
-    // Whether every beginning of a row is told by its length, and the whole of it accepted.
-    fn told_by_length(row: &[u8]) -> Result<bool, Refusal> {
-        let mut right = true;
-        for length in 1..=row.len() {
-            let whole = length >= 32 && length <= 347 && (length - 11) % 21 == 0;
-            let told = if whole {
-                Told(0, '-', 0, 0)
-            } else {
-                Told(21, 'r', 1, length + 1)
-            };
-            right = right && tell(&row[0..length], 48)?.is(told);
+    // What is told of a row of letters P by its length alone.
+    fn told_by_length(length: usize) -> Told {
+        let whole = length >= 32 && length <= 347 && (length - 11) % 21 == 0;
+        if whole {
+            Told(0, '-', 0, 0)
+        } else {
+            Told(21, 'r', 1, length + 1)
         }
-        Ok(right)
     }
 
     #[test]
-    fn rows_of_every_length(rt: HostRuntime) -> Result<(), Fail> {
+    fn rows_of_every_length(rt: HostRuntime) {
         let mut row = [b' '; 400];
         put_longest(&mut row, 18);
-        assert!(rt; told_by_length(&row)?);
-        Ok(())
+        for length in 1..=row.len() {
+            assert_eq!(rt;
+                tell(&row[0..length], 48),
+                told_by_length(length),
+                "{length}"
+            );
+        }
     }
 
     // Row 5, a closing byte, and other bytes.
@@ -184,32 +174,30 @@ mod tests {
     ];
 
     #[test]
-    fn pages_of_rows(rt: HostRuntime) -> Result<(), Fail> {
+    fn pages_of_rows(rt: HostRuntime) {
         for (bytes, told) in &PAGES {
             let mut page = [b' '; 100];
             put(&mut page, 1, FIVE);
             put(&mut page, 54, b"\n");
             put(&mut page, 55, bytes.as_bytes());
             let length = 54 + bytes.len().min(46);
-            assert!(rt; tell(&page[0..length], 48)?.is(*told), "{}", *bytes);
+            assert_eq!(rt; tell(&page[0..length], 48), *told, "{}", *bytes);
         }
-        assert!(rt; tell(b"", 0)?.is(Told(0, '-', 0, 0)));
-        assert!(rt; tell(b"\n", 0)?.is(Told(21, 'r', 1, 1)));
-        Ok(())
+        assert_eq!(rt; tell(b"", 0), Told(0, '-', 0, 0));
+        assert_eq!(rt; tell(b"\n", 0), Told(21, 'r', 1, 1));
     }
 
     #[test]
-    fn rows_before_a_bad_one_stay(rt: HostRuntime) -> Result<(), Fail> {
+    fn rows_before_a_bad_one_stay(rt: HostRuntime) {
         let mut page = [b' '; 107];
         put(&mut page, 1, FIVE);
         put(&mut page, 54, b"\n");
         put(&mut page, 55, FIVE);
-        let mut memory = [LetterCell::new(b'A')?; 6];
+        let mut memory = [LetterCell::default(); 6];
         let mut book = OpenBook::new(&mut memory);
-        let told = Told::new(enter_page(&mut book, &page));
+        let told = Told::from(enter_page(&mut book, &page));
         let sealed = book.seal();
-        assert!(rt; told.is(Told(12, 'b', 2, 1)));
+        assert_eq!(rt; told, Told(12, 'b', 2, 1));
         assert!(rt; sealed.has_number(5) && sealed.cells().len() == 3);
-        Ok(())
     }
 }

@@ -1,29 +1,20 @@
-use Rattle.std.proofs.Common.{◌≡◌, ℕ, ◌+◌, ◌-◌, ◌≤◌, List, take, drop, ℤ, Some, sym, ap, ◌∙◌, arith, w32, to_z, of_z, rules}
-use Rattle.std.proofs.lemmas.List.{drop-take}
+use Rattle.std.proofs.Common.{◌≡◌, ℕ, ◌-◌, List, length, take, drop, ℤ, Some, Ok, Err, Result, ap, ◌∙◌, w32, to_z, of_z, rules}
+use Rattle.std.proofs.lemmas.List.{take_rest}
+use Rattle.std.proofs.lemmas.Result.{MatchResult-weaker, err_from_is_err_and}
+use Rattle.std.specs.Result.{MatchResult, result_err}
+use Rattle.refusals.specs.declared.Refusal.{Refusal}
 use Rattle.cells.specs.declared.letters.LetterCell.{LetterCell}
 use Rattle.book.specs.Entering.{Request, enter_answer, entered, cells_after}
 use Rattle.book.specs.Stored.{open_book, places}
 use Rattle.page.specs.declared.drafts.Draft.{Draft}
-use Rattle.page.specs.declared.faults.Layer.TheVariants as layer
+use Rattle.page.specs.declared.faults.Flaw.{Flaw}
 use Rattle.page.specs.Drafts.{draft_request}
-use Rattle.page.specs.Told.{book_column, book_flaw}
+use Rattle.page.specs.Told.{book_flaw}
 use Rattle.page.proofs.entering.enter_draft.Goals as goal
 
 -- the line as its parts are lent
-abbrev lent : Draft → ℤ → Request LetterCell
-lent d p = record {
-  number = d.number;
-  points = p;
-  lag = d.lag;
-  lengths = take (d.keywords - 0) d.lengths;
-  gaps = take (d.keywords - 1) (drop 1 d.gaps);
-  cells = take (d.letters - 0) d.cells;
-}
-
-gaps_lent : (d : Draft) → 1 ≤ d.keywords → take (d.keywords - 1) (drop 1 d.gaps) ≡ drop 1 (take d.keywords d.gaps)
-gaps_lent d h =
-    let n : 1 + (d.keywords - 1) ≡ d.keywords = omega arith in
-    sym (drop-take 1 (d.keywords - 1) d.gaps) ∙ ap (λ k. drop 1 (take k d.gaps)) n
+abbrev pub lent : Draft → ℤ → List ℕ → List ℕ → List LetterCell → Request LetterCell
+lent d p ls gs cs = record { number = d.number; points = p; lag = d.lag; lengths = ls; gaps = take (length gs - 1) (drop 1 gs); cells = cs }
 
 alike : (n t : ℕ) (p q : ℤ) (ls ms gs hs : List ℕ) (cs ds : List LetterCell) → p ≡ q → ls ≡ ms → gs ≡ hs → cs ≡ ds
     → ◌≡◌ {A = Request LetterCell}
@@ -31,37 +22,29 @@ alike : (n t : ℕ) (p q : ℤ) (ls ms gs hs : List ℕ) (cs ds : List LetterCel
     (record { number = n; points = q; lag = t; lengths = ms; gaps = hs; cells = ds })
 alike n t p q ls ms gs hs cs ds e f g h = cc
 
-lent_is : (d : Draft) (p : ℤ) → p ≡ d.points → 1 ≤ d.keywords → lent d p ≡ draft_request d
-lent_is d p e h =
-    alike _ _ _ _ _ _ _ _ _ _ e
-    (ap (λ k. take k d.lengths) (omega arith))
-    (gaps_lent d h)
-    (ap (λ k. take k d.cells) (omega arith))
+lent_is : (d : Draft) (p : ℤ) (ls gs : List ℕ) (cs : List LetterCell) → p ≡ d.points → ls ≡ d.lengths.items → gs ≡ d.gaps.items → cs ≡ d.cells.items
+    → lent d p ls gs cs ≡ draft_request d
+lent_is d p ls gs cs e f g h = alike _ _ _ _ _ _ _ _ _ _ e f (take_rest gs 1 ∙ ap (drop 1) g) h
 
-pub returns-in-Ok : goal.returns-in-Ok
-returns-in-Ok c =
+-- the book's refusal is told with its column
+told : (gaps : List ℕ) (r : Result (Unit {0}) Refusal) (s : Result (Unit {0}) Flaw) → MatchResult r (λ x. s ≡ Ok x) (λ e. (f : Flaw) × (s ≡ Err f) × (Some f ≡ book_flaw gaps (Err e)))
+    → result_err s ≡ book_flaw gaps r
+told gaps (Ok x) s h = ap result_err h
+told gaps (Err r) s h = ap result_err h.1 ∙ h.2
+
+pub returns : goal.returns
+returns c =
     let d = c.args.draft.now in
     let b = c.args.book.now in
     let p : to_z w32 (of_z w32 d.points) ≡ d.points = search rules in
-    let e = lent_is d (to_z w32 (of_z w32 d.points)) p c.requires in
+    let gs = c.deref.result.now in
+    let e = lent_is d (to_z w32 (of_z w32 d.points)) c.as_slice.result.now gs c.as_slice-2.result.now p c.as_slice.ensures.value c.deref.ensures.0 c.as_slice-2.ensures.value in
     record {
-      answer = ap (book_flaw (draft_request d).gaps) (c.in-Ok.ensures.answer ∙ ap (enter_answer (open_book b) (places b)) e);
-      book = c.in-Ok.ensures.book ∙ ap (entered (open_book b) (places b)) e;
-      memory = c.in-Ok.ensures.memory ∙ ap (cells_after (open_book b) b.cells.now) e;
-      lender = c.in-Ok.ensures.lender;
-    }
-
-pub returns-in-Err : goal.returns-in-Err
-returns-in-Err c =
-    let d = c.args.draft.now in
-    let b = c.args.book.now in
-    let p : to_z w32 (of_z w32 d.points) ≡ d.points = search rules in
-    let e = lent_is d (to_z w32 (of_z w32 d.points)) p c.requires in
-    let column = c.column_of.ensures ∙ ap (λ gaps. book_column gaps c.in-Err.refusal) (gaps_lent d c.requires) in
-    record {
-      answer = ap (λ k. Some (record { refusal = c.in-Err.refusal; layer = layer.Book; column = k })) column
-          ∙ ap (book_flaw (draft_request d).gaps) (c.in-Err.ensures.answer ∙ ap (enter_answer (open_book b) (places b)) e);
-      book = c.in-Err.ensures.book ∙ ap (entered (open_book b) (places b)) e;
-      memory = c.in-Err.ensures.memory ∙ ap (cells_after (open_book b) b.cells.now) e;
-      lender = c.in-Err.ensures.lender;
+      answer = told (take (length gs - 1) (drop 1 gs)) c.enter.result c.map_err.result
+          (MatchResult-weaker c.enter.result c.map_err.ensures.cases (λ x p. p) (λ e p. let q = err_from_is_err_and c.map_err.result p in (q.0, q.1, search rules)))
+          ∙ ap (λ gaps. book_flaw gaps c.enter.result) (take_rest gs 1 ∙ ap (drop 1) c.deref.ensures.0)
+          ∙ ap (book_flaw (draft_request d).gaps) (c.enter.ensures.answer ∙ ap (enter_answer (open_book b) (places b)) e);
+      book = c.enter.ensures.book ∙ ap (entered (open_book b) (places b)) e;
+      memory = c.enter.ensures.memory ∙ ap (cells_after (open_book b) b.cells.now) e;
+      lender = c.enter.ensures.lender;
     }

@@ -1,26 +1,17 @@
-use Rattle.std.proofs.Common.{arith, rules}
+use Rattle.std.proofs.Common.{arith}
 use Rattle.std.proofs.lemmas.Bool.Decides.{nat_tests}
 use Rattle.page.specs.Letters.{bad_letter}
 use Rattle.page.proofs.Steps.{blanks_step, blanks_end}
 use Rattle.page.proofs.fields.first_bad.Goals as goal
 
-pub returns-then-letters-eq0 : goal.returns-then-letters-eq0
+pub returns-then-letters-eq0-clause-value : goal.returns-then-letters-eq0-clause-value
 unfolding bad_letter
-returns-then-letters-eq0 c = record { value = grind (arith, nat_tests); within = search rules }
+returns-then-letters-eq0-clause-value c = grind (arith, nat_tests)
 
-pub loop-column-preserved : goal.loop-column-preserved
-loop-column-preserved c =
-    let s = blanks_step c.args.field.now c.loop-column.column (omega arith) in
-    (omega arith, grind (arith, nat_tests))
-
-pub returns-then-column-field : goal.returns-then-column-field
+pub returns-then-column-field-clause-value : goal.returns-then-column-field-clause-value
 unfolding bad_letter
-returns-then-column-field c =
-    let s = blanks_end c.args.field.now c.loop-column.column (omega arith) in
-    record { value = grind (arith, nat_tests); within = search rules }
+returns-then-column-field-clause-value c = grind (arith, nat_tests, blanks_end)
 
-pub returns-then-field-column-ne-BLANK : goal.returns-then-field-column-ne-BLANK
+pub returns-then-field-column-ne-BLANK-clause-value : goal.returns-then-field-column-ne-BLANK-clause-value
 unfolding bad_letter
-returns-then-field-column-ne-BLANK c =
-    let s = blanks_step c.args.field.now c.loop-column.column (omega arith) in
-    record { value = grind (arith, nat_tests); within = search rules }
+returns-then-field-column-ne-BLANK-clause-value c = grind (arith, nat_tests, blanks_step)
