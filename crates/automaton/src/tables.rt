@@ -9,6 +9,7 @@ mod making;
 mod reading;
 
 /// A book, and the automaton of its keywords in memory that is lent.
+// Four slices side by side, since the caller lends one row of numbers, which is cut into them.
 #[derive(Drop)]
 pub struct Tables<'a> {
     book: SealedBook<'a, LetterCell>,

@@ -172,69 +172,66 @@ pub(crate) static BAND_CASES: [Case<Band, Gauges>; 2] = [
     },
 ];
 
-fn enter_line(book: &mut OpenBook<'_, LetterCell>, line: &Line<u8>) -> Result<(), Refusal> {
-    let mut cells = [LetterCell::new(b'A')?; 16];
-    let count = line.cells.len().min(16);
-    for i in 0..count {
-        cells[i] = LetterCell::new(line.cells[i])?;
-    }
-    book.enter(Entry {
-        number: line.number,
-        points: 0,
-        lag: 0,
-        lengths: line.lengths,
-        gaps: line.gaps,
-        cells: &cells[0..count],
-    })
+/// The cell of a letter, as the table writes it.
+pub(crate) fn letter(byte: u8) -> Result<LetterCell, Refusal> {
+    LetterCell::new(byte)
 }
 
-/// Whether all lines were entered.
-pub(crate) fn enter_letters(book: &mut OpenBook<'_, LetterCell>, lines: &[Line<u8>]) -> bool {
-    let mut all = true;
-    for line in lines {
-        all = enter_line(book, line).is_ok() && all;
-    }
-    all
-}
-
-fn band((rpm_lowest, rpm_highest, oil_lowest, oil_highest): Band) -> Result<BandCell, Refusal> {
+/// The cell of a band, as the table writes it.
+pub(crate) fn band(
+    (rpm_lowest, rpm_highest, oil_lowest, oil_highest): Band,
+) -> Result<BandCell, Refusal> {
     let rpm = Bounds::new(rpm_lowest, rpm_highest)?;
     let oil = Bounds::new(oil_lowest, oil_highest)?;
     Ok(BandCell::new(rpm, oil))
 }
 
-fn enter_band_line(book: &mut OpenBook<'_, BandCell>, line: &Line<Band>) -> Result<(), Refusal> {
-    let mut cells = [band(CRANKING)?; 16];
-    let count = line.cells.len().min(16);
-    for i in 0..count {
-        cells[i] = band(line.cells[i])?;
+// Enters a line. `made` makes a cell of what the table writes for it, in room that is lent for the cells of a line.
+fn enter_line<T: Copy, C: Cell, F: Fn(T) -> Result<C, Refusal>>(
+    book: &mut OpenBook<'_, C>,
+    line: &Line<T>,
+    room: &mut [C],
+    made: &F,
+) -> Result<(), Refusal>
+    requires { F.IsAlwaysCallable made.now }
+{
+    let written = line.cells;
+    let count = written.len().min(room.len());
+    // An index, since what is written is read at it and the cells are made.
+    for (i, cell) in written[0..count].iter().enumerate() {
+        room[i] = made(*cell)?;
     }
+    let cells = &room[0..count];
     book.enter(Entry {
         number: line.number,
         points: 0,
         lag: 0,
         lengths: line.lengths,
         gaps: line.gaps,
-        cells: &cells[0..count],
+        cells,
     })
 }
 
 /// Whether all lines were entered.
-pub(crate) fn enter_bands(book: &mut OpenBook<'_, BandCell>, lines: &[Line<Band>]) -> bool {
-    let mut all = true;
+pub(crate) fn enter_lines<T: Copy, C: Cell, F: Fn(T) -> Result<C, Refusal>>(
+    book: &mut OpenBook<'_, C>,
+    lines: &[Line<T>],
+    room: &mut [C],
+    made: &F,
+) -> bool
+    requires { F.IsAlwaysCallable made.now }
+{
     for line in lines {
-        all = enter_band_line(book, line).is_ok() && all;
+        if enter_line(book, line, room, made).is_err() {
+            return false;
+        }
     }
-    all
+    true
 }
 
 // Whether just these keywords have ended, of those that the book has and one more.
 fn just<C: Cell, F: Finder<C>>(finder: &F, ended: &[usize]) -> bool {
-    let mut alike = true;
-    for keyword in 0..=finder.keywords().len() {
-        alike = finder.ended(keyword) == ended.contains(&keyword) && alike;
-    }
-    alike
+    (0..=finder.keywords().len()).all(|keyword| finder.ended(keyword) == ended.contains(&keyword))
 }
 
 /// Whether a finder finds, tick by tick, the keywords that have ended; and finds none after a clear.
