@@ -123,7 +123,7 @@ impl<C: Cell, F: Finder<C>> Bench<C, F> {
     }
 
     // The standing of a number, as it is kept.
-    fn kept_standing(&self, number: u16) -> Standing
+    fn kept_standing(&self, number: u16) -> Option<Standing>
         ensures { Stands C.Cell.hears F.Finder.reads F.Finder.book F.Finder.stands self.now number (shown result) }
     {
         self.desk.standings.standing(number)
@@ -133,10 +133,6 @@ impl<C: Cell, F: Finder<C>> Bench<C, F> {
     pub fn standing(&self, number: u16) -> Option<LineState>
         ensures { Stands C.Cell.hears F.Finder.reads F.Finder.book F.Finder.stands self.now number result }
     {
-        match self.kept_standing(number) {
-            Standing::Absent => None,
-            Standing::Armed { .. } => Some(LineState::Armed),
-            Standing::Resting => Some(LineState::Resting),
-        }
+        self.kept_standing(number).map(LineState::from)
     }
 }

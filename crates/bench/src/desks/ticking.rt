@@ -14,13 +14,12 @@ use standings::tables::Standings;
 use standings::turns::Standing;
 
 // Whether a line is armed, and an occurrence of that span that ends at a tick started after its mark.
-fn started(standing: Standing, span: u32, tick: u32) -> bool
+fn started(standing: Option<Standing>, span: u32, tick: u32) -> bool
     ensures { result ≡ starts_after standing span tick }
 {
     match standing {
-        Standing::Armed { mark } => mark as u64 + span as u64 <= tick as u64,
-        Standing::Resting => false,
-        Standing::Absent => false,
+        Some(Standing::Armed { mark }) => mark as u64 + span as u64 <= tick as u64,
+        _ => false,
     }
 }
 

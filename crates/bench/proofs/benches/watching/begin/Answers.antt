@@ -1,10 +1,10 @@
-use Rattle.std.proofs.Common.{◌≡◌, cond, ◌&&◌, List, map, sym, refl, ap, ◌∙◌, subst}
+use Rattle.std.proofs.Common.{◌≡◌, cond, ◌&&◌, List, map, Some, None, sym, refl, ap, ◌∙◌, subst}
 use Rattle.book.specs.declared.rows.LineRow.{LineRow}
 use Rattle.book.specs.declared.rows.KeywordRow.{KeywordRow}
 use Rattle.book.specs.Book.{Book, among}
 use Rattle.book.specs.Rows.{line_rows, keyword_rows}
 use Rattle.book.specs.Rules.{within}
-use Rattle.standings.specs.declared.turns.Standing.TheVariants.{Absent, Armed}
+use Rattle.standings.specs.declared.turns.Standing.TheVariants.{Armed}
 use Rattle.bench.specs.Listed.{watched_row, Listable}
 use Rattle.bench.proofs.Histories.{none_reported}
 use Rattle.bench.proofs.Listings.{listed_book, listable}
@@ -29,6 +29,6 @@ returns g c =
       sees = c.start-lookback.ensures;
       lines = c.new.ensures ∙ (λ i. map (watched_row (keys i)) (rows i)) ∙ listed_book b proper.each;
       ticks = refl;
-      standings = λ n. c.new-2.ensures n ∙ (λ i. cond (within 1 128 n && among n ((ap (map (λ l. l.number)) rows ∙ row_numbers 0 b) i)) (Armed 0) Absent) ∙ ap (λ t. cond t (Armed 0) Absent) (has_within b n proper.each);
+      standings = λ n. c.new-2.ensures n ∙ (λ i. cond (within 1 128 n && among n ((ap (map (λ l. l.number)) rows ∙ row_numbers 0 b) i)) (Some (Armed 0)) None) ∙ ap (λ t. cond t (Some (Armed 0)) None) (has_within b n proper.each);
       recent = λ i low near n. c.none.ensures i n ∙ sym (none_reported g.C.Cell.hears b i n);
     }
