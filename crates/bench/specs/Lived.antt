@@ -6,7 +6,7 @@ use Rattle.history.specs.Reports.{numbers_reported}
 use Rattle.standings.specs.Turning.{standing_at}
 use Rattle.bench.specs.declared.benches.Bench.{Bench}
 use Rattle.bench.specs.declared.desks.Desk.{Desk}
-use Rattle.bench.specs.Listed.{listed, watched}
+use Rattle.bench.specs.Listed.{watched}
 use Rattle.bench.specs.Noted.{noted}
 use Rattle.bench.specs.Seen.{Sees}
 use Rattle.bench.specs.Standings.{standing_in}
@@ -15,7 +15,7 @@ module _ {C S F : Type 0} (hears : C → S → Bool) (book : F → Book C) (stan
   -- a finder and a desk are those of a bench of a book after a history
   pub record Lives (f : F) (d : Desk) (b : Book C) (h : History S) : Type 0 where
     pub sees : Sees hears book stands f d.lookback b (samples h)
-    pub lines : listed d.lines ≡ watched b
+    pub lines : d.lines.items ≡ watched b
     pub ticks : d.count ≡ count h
     pub standings : (n : ℕ) → standing_at d.standings n ≡ standing_in b h n
     pub recent : (i : ℕ) → i ≤ count h → count h < i + 64 → (n : ℕ) → noted d.recent i n ≡ among n (numbers_reported hears b h i)

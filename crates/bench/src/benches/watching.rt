@@ -1,5 +1,5 @@
 // What a bench does.
-ghost use Rattle.std.specs.Prelude.{◌≡◌, [], IfOk, IfErr, Ok, Err};
+ghost use Rattle.std.specs.Prelude.{◌≡◌, ◌<◌, [], IfOk, IfErr, Ok, Err};
 ghost use Rattle.history.specs.Calls.{arm, rest, clear};
 ghost use Rattle.bench.specs.Keeping.{Fed, Did, Stands, Ready, turn_of};
 ghost use Rattle.bench.specs.Lived.{Lives, Represents};
@@ -7,7 +7,7 @@ ghost use Rattle.bench.specs.Standings.{shown};
 
 use crate::benches::Bench;
 use crate::desks::Desk;
-use crate::lines::Lines;
+use crate::lines::listing::watched_lines;
 use crate::matching::{start, take};
 use crate::recent::Recent;
 use crate::states::LineState;
@@ -29,7 +29,7 @@ fn begin<C: Cell, F: Finder<C>>(finder: &mut F) -> Desk
     let lookback = start::<C, F>(finder);
     let lines = finder.lines();
     Desk {
-        lines: Lines::new::<C>(lines, finder.keywords()),
+        lines: watched_lines::<C>(lines, finder.keywords()),
         lookback,
         standings: Standings::new(lines),
         recent: Recent::none(),
@@ -66,12 +66,11 @@ impl<C: Cell, F: Finder<C>> Bench<C, F> {
         Ok(symbol)
     }
 
-    // Counts a tick, at which a sample came that was read as a symbol.
-    fn advance(&mut self, sample: C::Sample, symbol: F::Symbol) -> (u32, Numbers, i32)
-        requires { Ready C.Cell.hears F.Finder.reads F.Finder.book F.Finder.stands F.Finder.admits self.old sample symbol }
-        ensures { Fed C.Cell.hears F.Finder.reads F.Finder.book F.Finder.stands self.old sample (Ok result) self.new }
+    // Counts a tick, at which a symbol came: that of any sample that was read as it.
+    fn advance(&mut self, symbol: F::Symbol) -> (u32, Numbers, i32)
+        requires { self.old.desk.count < 4000000000 }
+        ensures { (s : C.Sample) → Ready C.Cell.hears F.Finder.reads F.Finder.book F.Finder.stands F.Finder.admits self.old s symbol → Fed C.Cell.hears F.Finder.reads F.Finder.book F.Finder.stands self.old s (Ok result) self.new }
     {
-        let _ = sample;
         let column = take::<C, F>(&mut self.finder, &mut self.desk.lookback, symbol);
         self.desk.tick(column)
     }
@@ -82,7 +81,7 @@ impl<C: Cell, F: Finder<C>> Bench<C, F> {
         ensures { Fed C.Cell.hears F.Finder.reads F.Finder.book F.Finder.stands self.old sample result self.new }
     {
         let symbol = self.admit(sample)?;
-        Ok(self.advance(sample, symbol))
+        Ok(self.advance(symbol))
     }
 
     // Arms or rests a line.

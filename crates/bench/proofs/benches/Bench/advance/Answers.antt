@@ -6,24 +6,23 @@ use Rattle.bench.proofs.Feeds.{tells, lives_on, fed_answer, fed_after}
 use Rattle.bench.proofs.benches.Bench.advance.Goals as goal
 
 pub returns : goal.returns
-returns g c =
+returns g c s ready =
     let hears = g.C.Cell.hears in
     let book = g.F.Finder.book in
     let stands = g.F.Finder.stands in
-    let s = c.args.sample in
     let reads = takes g.F.Finder.reads in
     let f = c.args.self.now.finder in
     let d = c.args.self.now.desk in
-    let taken : is_some (g.F.Finder.reads s) ≡ true = ap is_some c.requires.read in
+    let taken : is_some (g.F.Finder.reads s) ≡ true = ap is_some ready.read in
     record {
       answer = λ b h r.
-          let room : count h < 4000000000 = omega (arith, r.lives.ticks, c.requires.room) in
-          ap Ok (tells hears book stands f d b h r.lives s c.take-column.new.lookback c.take-column.result c.tick.result c.tick.new.self (c.take-column.ensures.occur b (samples h) s r.lives.sees c.requires.heard) c.tick.ensures reads)
+          let room : count h < 4000000000 = omega (arith, r.lives.ticks, ready.room) in
+          ap Ok (tells hears book stands f d b h r.lives s c.take-column.new.lookback c.take-column.result c.tick.result c.tick.new.self (c.take-column.ensures.occur b (samples h) s r.lives.sees ready.heard) c.tick.ensures reads)
           ∙ sym (fed_answer hears reads b h s taken room);
       history = λ b h r.
-          let room : count h < 4000000000 = omega (arith, r.lives.ticks, c.requires.room) in
+          let room : count h < 4000000000 = omega (arith, r.lives.ticks, ready.room) in
           record {
             lives = subst (λ x. Lives hears book stands c.take-column.new.finder c.tick.new.self b x) (sym (fed_after hears reads b h s taken room))
-                (lives_on hears book stands f d b h r.lives s c.take-column.new.lookback c.take-column.result c.tick.result c.tick.new.self (c.take-column.ensures.occur b (samples h) s r.lives.sees c.requires.heard) c.tick.ensures c.take-column.new.finder (c.take-column.ensures.sees b (samples h) s r.lives.sees c.requires.heard));
+                (lives_on hears book stands f d b h r.lives s c.take-column.new.lookback c.take-column.result c.tick.result c.tick.new.self (c.take-column.ensures.occur b (samples h) s r.lives.sees ready.heard) c.tick.ensures c.take-column.new.finder (c.take-column.ensures.sees b (samples h) s r.lives.sees ready.heard));
           };
     }

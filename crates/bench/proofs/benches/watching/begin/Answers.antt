@@ -11,8 +11,8 @@ use Rattle.bench.proofs.Listings.{listed_book, listable}
 use Rattle.bench.proofs.Numbered.{row_numbers, has_within}
 use Rattle.bench.proofs.benches.watching.begin.Goals as goal
 
-pub new-requires : goal.new-requires
-new-requires g c =
+pub watched_lines-requires : goal.watched_lines-requires
+watched_lines-requires g c =
     let b = g.F.Finder.book c.start-lookback.new.finder in
     subst (λ (ks : List KeywordRow). Listable c.lines-lines.result.now ks) (sym c.keywords.ensures.rows)
     (subst (λ (ls : List LineRow). Listable ls (keyword_rows b)) (sym c.lines-lines.ensures.rows) (listable b c.lines-lines.ensures.proper))
@@ -27,8 +27,8 @@ returns g c =
     let keys = c.keywords.ensures.rows ∙ ap keyword_rows same in
     record {
       sees = c.start-lookback.ensures;
-      lines = c.new.ensures ∙ (λ i. map (watched_row (keys i)) (rows i)) ∙ listed_book b proper.each;
+      lines = c.watched_lines.ensures ∙ (λ i. map (watched_row (keys i)) (rows i)) ∙ listed_book b proper.each;
       ticks = refl;
-      standings = λ n. c.new-2.ensures n ∙ (λ i. cond (within 1 128 n && among n ((ap (map (λ l. l.number)) rows ∙ row_numbers 0 b) i)) (Some (Armed 0)) None) ∙ ap (λ t. cond t (Some (Armed 0)) None) (has_within b n proper.each);
+      standings = λ n. c.new.ensures n ∙ (λ i. cond (within 1 128 n && among n ((ap (map (λ l. l.number)) rows ∙ row_numbers 0 b) i)) (Some (Armed 0)) None) ∙ ap (λ t. cond t (Some (Armed 0)) None) (has_within b n proper.each);
       recent = λ i low near n. c.none.ensures i n ∙ sym (none_reported g.C.Cell.hears b i n);
     }
