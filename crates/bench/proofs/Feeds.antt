@@ -19,7 +19,7 @@ use Rattle.bench.specs.Due.{due_points}
 use Rattle.bench.specs.Firing.{any_fires}
 use Rattle.bench.specs.Lived.{Lives}
 use Rattle.bench.specs.Noted.{noted}
-use Rattle.bench.specs.Seen.{Sees, Occur}
+use Rattle.matching.specs.Seen.{Sees, Occur}
 use Rattle.bench.specs.Ticked.{Ticked}
 use Rattle.bench.proofs.Fires.{fired, due}
 use Rattle.bench.proofs.Histories.{earlier, alike}

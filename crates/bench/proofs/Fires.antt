@@ -20,12 +20,12 @@ use Rattle.bench.specs.Due.{due_points}
 use Rattle.bench.specs.Firing.{starts_after, fires, any_fires}
 use Rattle.bench.specs.Listed.{watched_from, watched}
 use Rattle.bench.specs.Noted.{noted}
-use Rattle.bench.specs.Seen.{Occur}
+use Rattle.matching.specs.Seen.{Occur}
 use Rattle.bench.specs.Standings.{standing_in}
 use Rattle.bench.proofs.Histories.{count-samples, newest, among_reported}
 use Rattle.bench.proofs.Listings.{longer, moved}
 use Rattle.bench.proofs.Numbered.{eqb_swap, has_here, own_number}
-use Rattle.bench.proofs.Spots.{all_split}
+use Rattle.matching.proofs.Spots.{all_split}
 
 -- the start lies after the mark exactly when the end lies a span after it
 after_mark : (m sp t : ℕ) → sp ≤ t → leb (m + sp) t ≡ ltb m (t - sp + 1)

@@ -12,7 +12,7 @@ use Rattle.standings.specs.declared.turns.Turn.TheVariants.{Arm, Rest}
 use Rattle.bench.specs.declared.benches.Bench.{Bench}
 use Rattle.bench.specs.declared.states.LineState.{LineState}
 use Rattle.bench.specs.Lived.{Represents}
-use Rattle.bench.specs.Seen.{Heard}
+use Rattle.matching.specs.Seen.{Heard}
 use Rattle.bench.specs.Standings.{standing_answer}
 
 -- whether a sort of finder takes a sample

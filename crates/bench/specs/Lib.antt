@@ -3,7 +3,6 @@ pub mod Noted
 pub mod Firing
 pub mod Due
 pub mod Ticked
-pub mod Seen
 pub mod Standings
 pub mod Lived
 pub mod Keeping

@@ -8,7 +8,7 @@ use Rattle.bench.specs.declared.benches.Bench.{Bench}
 use Rattle.bench.specs.declared.desks.Desk.{Desk}
 use Rattle.bench.specs.Listed.{watched}
 use Rattle.bench.specs.Noted.{noted}
-use Rattle.bench.specs.Seen.{Sees}
+use Rattle.matching.specs.Seen.{Sees}
 use Rattle.bench.specs.Standings.{standing_in}
 
 module _ {C S F : Type 0} (hears : C → S → Bool) (book : F → Book C) (stands : F → ℕ → Bool) where

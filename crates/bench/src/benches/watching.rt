@@ -8,12 +8,12 @@ ghost use Rattle.bench.specs.Standings.{shown};
 use crate::benches::Bench;
 use crate::desks::Desk;
 use crate::lines::listing::watched_lines;
-use crate::matching::{start, take};
 use crate::recent::Recent;
 use crate::states::LineState;
 use cells::kinds::Cell;
 use columns::numbers::Numbers;
 use finders::finding::Finder;
+use matching::{clear, start, take};
 use refusals::Refusal;
 use standings::tables::Standings;
 use standings::turns::{Standing, Turn};
@@ -106,12 +106,14 @@ impl<C: Cell, F: Finder<C>> Bench<C, F> {
         self.turn(number, Turn::Rest)
     }
 
-    // Makes the bench anew over its own finder.
+    // Forgets every tick and every turn; the lines stay.
     fn restart(&mut self)
         ensures { Did C.Cell.hears F.Finder.reads F.Finder.book F.Finder.stands self.old clear (Ok tt) self.new }
     {
-        let desk = begin::<C, F>(&mut self.finder);
-        self.desk = desk;
+        clear::<C, F>(&mut self.finder, &mut self.desk.lookback);
+        self.desk.standings = Standings::new(self.finder.lines());
+        self.desk.recent = Recent::none();
+        self.desk.count = 0;
     }
 
     /// Returns to the just made condition.
