@@ -17,7 +17,7 @@ use Rattle.standings.specs.Turning.{standing_at}
 use Rattle.bench.specs.declared.desks.Desk.{Desk}
 use Rattle.bench.specs.Due.{due_points}
 use Rattle.bench.specs.Firing.{any_fires}
-use Rattle.bench.specs.Lived.{Lives}
+use Rattle.bench.specs.Life.{Lives}
 use Rattle.bench.specs.Noted.{noted}
 use Rattle.matching.specs.Seen.{Sees, Occur}
 use Rattle.bench.specs.Ticked.{Ticked}

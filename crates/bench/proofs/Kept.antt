@@ -1,5 +1,5 @@
 -- What a call leaves of a bench's life as it was.
-use Rattle.std.proofs.Common.{◌≡◌, ℕ, ◌+◌, ◌<◌, ◌≤◌, Bool, true, false, cond, ◌&&◌, List, [], ◌∷◌, map, Some, None, is_ok, sym, refl, ap, ◌∙◌, subst}
+use Rattle.std.proofs.Common.{◌≡◌, ℕ, ◌+◌, ◌<◌, ◌≤◌, Bool, true, false, cond, ◌&&◌, eqb, List, [], ◌∷◌, map, Some, None, is_ok, sym, refl, ap, ◌∙◌, subst}
 use Rattle.book.specs.declared.rows.LineRow.{LineRow}
 use Rattle.book.specs.Book.{Book, among}
 use Rattle.book.specs.Rows.{line_rows}
@@ -11,16 +11,17 @@ use Rattle.standings.specs.declared.tables.Standings.{Standings}
 use Rattle.standings.specs.declared.turns.Turn.{Turn}
 use Rattle.standings.specs.declared.turns.Turn.TheVariants.{Arm, Rest}
 use Rattle.standings.specs.declared.turns.Standing.TheVariants.{Armed}
-use Rattle.standings.specs.Turning.{standing_at, first_standing}
+use Rattle.standings.specs.Turning.{turned, placed, standing_at, turned_at, first_standing}
 use Rattle.bench.specs.declared.desks.Desk.{Desk}
 use Rattle.bench.specs.Keeping.{turn_of}
 use Rattle.bench.specs.Listed.{watched}
-use Rattle.bench.specs.Lived.{Lives}
+use Rattle.bench.specs.Life.{Lives}
 use Rattle.bench.specs.Noted.{noted}
 use Rattle.matching.specs.Seen.{Sees}
 use Rattle.bench.specs.Standings.{standing_in}
 use Rattle.bench.proofs.Histories.{none_reported, alike}
 use Rattle.bench.proofs.Numbered.{row_numbers, has_within}
+use Rattle.bench.proofs.Turns.{placed_turned, stands_after}
 
 module _ {C S : Type 0} (hears : C → S → Bool) (takes : S → Bool) (b : Book C) (h : History S) (n : ℕ) where
   -- a turn of a line is no tick
@@ -63,7 +64,7 @@ module _ {C S : Type 0} (hears : C → S → Bool) (takes : S → Bool) (b : Boo
 module _ {C S F : Type 0} (hears : C → S → Bool) (book : F → Book C) (stands : F → ℕ → Bool) where
   -- a turn of a line changes the standings alone
   pub turn_kept : (takes : S → Bool) (f : F) (d : Desk) (b : Book C) (h : History S) → Lives hears book stands f d b h → (n : ℕ) (t : Turn) (st : Standings)
-      → ((m : ℕ) → standing_at st m ≡ standing_in b (after takes b h (turn_of t n)) m)
+      → st.at ≡ turned_at d.standings n t d.count
       → Lives hears book stands f (record { lines = d.lines; lookback = d.lookback; standings = st; recent = d.recent; count = d.count }) b (after takes b h (turn_of t n))
   turn_kept takes f d b h r n t st e =
       let later = after takes b h (turn_of t n) in
@@ -72,7 +73,11 @@ module _ {C S F : Type 0} (hears : C → S → Bool) (book : F → Book C) (stan
         sees = subst (Sees hears book stands f d.lookback b) (sym (same_samples hears takes b h n t)) r.sees;
         lines = r.lines;
         ticks = r.ticks ∙ sym c;
-        standings = e;
+        standings = λ m.
+            ap (λ at. placed at m) e
+            ∙ placed_turned d.standings n m t d.count
+            ∙ (λ i. cond (eqb n m) (turned (r.standings n i) t (r.ticks i)) (r.standings m i))
+            ∙ stands_after takes b h n m t;
         recent = λ i low near m.
             r.recent i (subst (λ x. i ≤ x) c low) (subst (λ x. x < i + 64) c near) m
             ∙ ap (among m) (sym (same_reports hears takes b h n t i));

@@ -4,5 +4,6 @@ pub mod Firing
 pub mod Due
 pub mod Ticked
 pub mod Standings
+pub mod Life
 pub mod Lived
 pub mod Keeping

@@ -1,8 +1,9 @@
 // What a bench does.
-ghost use Rattle.std.specs.Prelude.{◌≡◌, ◌<◌, [], IfOk, IfErr, Ok, Err};
+ghost use Rattle.std.specs.Prelude.{◌≡◌, [], IfOk, IfErr, Ok, Err};
 ghost use Rattle.history.specs.Calls.{arm, rest, clear};
 ghost use Rattle.bench.specs.Keeping.{Fed, Did, Stands, Ready, turn_of};
-ghost use Rattle.bench.specs.Lived.{Lives, Represents};
+ghost use Rattle.bench.specs.Life.{Lives};
+ghost use Rattle.bench.specs.Lived.{Represents};
 ghost use Rattle.bench.specs.Standings.{shown};
 
 use crate::benches::Bench;
@@ -41,7 +42,7 @@ impl<C: Cell, F: Finder<C>> Bench<C, F> {
     /// A bench over a finder, which it takes over and clears: no tick is counted, every line is armed with mark 0, and
     /// no points are due.
     pub fn new(finder: F) -> Bench<C, F>
-        ensures { Represents C.Cell.hears F.Finder.book F.Finder.stands result (F.Finder.book finder) [] }
+        ensures { Represents C.Cell F.Finder result (F.Finder.book finder) [] }
     {
         let mut finder = finder;
         let desk = begin::<C, F>(&mut finder);
@@ -54,8 +55,8 @@ impl<C: Cell, F: Finder<C>> Bench<C, F> {
 
     // The symbol of a sample that a feed accepts, or the refusal.
     fn admit(&self, sample: C::Sample) -> Result<F::Symbol, Refusal>
-        ensures accepted { IfOk result (λ y. Ready C.Cell.hears F.Finder.reads F.Finder.book F.Finder.stands F.Finder.admits self.now sample y) }
-        ensures refused { IfErr result (λ e. Fed C.Cell.hears F.Finder.reads F.Finder.book F.Finder.stands self.now sample (Err e) self.now) }
+        ensures accepted { IfOk result (λ y. Ready C.Cell F.Finder self.now sample y) }
+        ensures refused { IfErr result (λ e. Fed C.Cell F.Finder self.now sample (Err e) self.now) }
     {
         let Some(symbol) = F::read(sample) else {
             return Err(Refusal::NoSymbol);
@@ -68,8 +69,8 @@ impl<C: Cell, F: Finder<C>> Bench<C, F> {
 
     // Counts a tick, at which a symbol came: that of any sample that was read as it.
     fn advance(&mut self, symbol: F::Symbol) -> (u32, Numbers, i32)
-        requires { self.old.desk.count < 4000000000 }
-        ensures { (s : C.Sample) → Ready C.Cell.hears F.Finder.reads F.Finder.book F.Finder.stands F.Finder.admits self.old s symbol → Fed C.Cell.hears F.Finder.reads F.Finder.book F.Finder.stands self.old s (Ok result) self.new }
+        requires { (s : C.Sample) × Ready C.Cell F.Finder self.old s symbol }
+        ensures { (s : C.Sample) → Ready C.Cell F.Finder self.old s symbol → Fed C.Cell F.Finder self.old s (Ok result) self.new }
     {
         let column = take::<C, F>(&mut self.finder, &mut self.desk.lookback, symbol);
         self.desk.tick(column)
@@ -78,7 +79,7 @@ impl<C: Cell, F: Finder<C>> Bench<C, F> {
     /// Feeds the sample of the next tick: answers the tick, the numbers of the lines that are reported, and the points
     /// that are due. It refuses a sample that its finder does not take, and any past 4,000,000,000 ticks.
     pub fn feed(&mut self, sample: C::Sample) -> Result<(u32, Numbers, i32), Refusal>
-        ensures { Fed C.Cell.hears F.Finder.reads F.Finder.book F.Finder.stands self.old sample result self.new }
+        ensures { Fed C.Cell F.Finder self.old sample result self.new }
     {
         let symbol = self.admit(sample)?;
         Ok(self.advance(symbol))
@@ -86,7 +87,7 @@ impl<C: Cell, F: Finder<C>> Bench<C, F> {
 
     // Arms or rests a line.
     fn turn(&mut self, number: u16, turn: Turn) -> Result<(), Refusal>
-        ensures { Did C.Cell.hears F.Finder.reads F.Finder.book F.Finder.stands self.old (turn_of turn number) result self.new }
+        ensures { Did C.Cell F.Finder self.old (turn_of turn number) result self.new }
     {
         let count = self.desk.count;
         self.desk.standings.turn(number, turn, count)
@@ -94,21 +95,21 @@ impl<C: Cell, F: Finder<C>> Bench<C, F> {
 
     /// Arms a resting line: only occurrences that start after the present tick are reported from here on.
     pub fn arm(&mut self, number: u16) -> Result<(), Refusal>
-        ensures { Did C.Cell.hears F.Finder.reads F.Finder.book F.Finder.stands self.old (arm number) result self.new }
+        ensures { Did C.Cell F.Finder self.old (arm number) result self.new }
     {
         self.turn(number, Turn::Arm)
     }
 
     /// Rests an armed line: it is not reported from here on.
     pub fn rest(&mut self, number: u16) -> Result<(), Refusal>
-        ensures { Did C.Cell.hears F.Finder.reads F.Finder.book F.Finder.stands self.old (rest number) result self.new }
+        ensures { Did C.Cell F.Finder self.old (rest number) result self.new }
     {
         self.turn(number, Turn::Rest)
     }
 
     // Forgets every tick and every turn; the lines stay.
     fn restart(&mut self)
-        ensures { Did C.Cell.hears F.Finder.reads F.Finder.book F.Finder.stands self.old clear (Ok tt) self.new }
+        ensures { Did C.Cell F.Finder self.old clear (Ok tt) self.new }
     {
         clear::<C, F>(&mut self.finder, &mut self.desk.lookback);
         self.desk.standings = Standings::new(self.finder.lines());
@@ -118,21 +119,21 @@ impl<C: Cell, F: Finder<C>> Bench<C, F> {
 
     /// Returns to the just made condition.
     pub fn clear(&mut self)
-        ensures { Did C.Cell.hears F.Finder.reads F.Finder.book F.Finder.stands self.old clear (Ok tt) self.new }
+        ensures { Did C.Cell F.Finder self.old clear (Ok tt) self.new }
     {
         self.restart();
     }
 
     // The standing of a number, as it is kept.
     fn kept_standing(&self, number: u16) -> Option<Standing>
-        ensures { Stands C.Cell.hears F.Finder.reads F.Finder.book F.Finder.stands self.now number (shown result) }
+        ensures { Stands C.Cell F.Finder self.now number (shown result) }
     {
         self.desk.standings.standing(number)
     }
 
     /// Whether a line is armed or resting; absent where the book has no line of that number.
     pub fn standing(&self, number: u16) -> Option<LineState>
-        ensures { Stands C.Cell.hears F.Finder.reads F.Finder.book F.Finder.stands self.now number result }
+        ensures { Stands C.Cell F.Finder self.now number result }
     {
         self.kept_standing(number).map(LineState::from)
     }

@@ -1,9 +1,24 @@
-use Rattle.std.proofs.Common.{◌≡◌, ◌<◌, true, is_some, Ok, sym, ap, ◌∙◌, subst, arith}
-use Rattle.history.specs.Calls.{samples, count}
+use Rattle.std.proofs.Common.{◌≡◌, ◌<◌, ◌∷◌, true, is_some, Ok, sym, ap, ◌∙◌, subst, arith}
+use Rattle.std.proofs.Math.Logic.{∥∥₁_map}
+use Rattle.history.specs.Calls.{feed, samples, count}
 use Rattle.bench.specs.Keeping.{takes}
-use Rattle.bench.specs.Lived.{Lives}
+use Rattle.bench.specs.Life.{Lives}
 use Rattle.bench.proofs.Feeds.{tells, lives_on, fed_answer, fed_after}
 use Rattle.bench.proofs.benches.Bench.advance.Goals as goal
+
+pub tick-requires : goal.tick-requires
+tick-requires g c = c.requires.1.room
+
+pub invariant_of-self : goal.invariant_of-self
+invariant_of-self g c =
+    let s = c.requires.0 in
+    let ready = c.requires.1 in
+    record {
+      lived = ∥∥₁_map c.args.self.now.lived (λ l.
+          let b = l.0 in
+          let h = l.1 in
+          (b, feed s ∷ h, lives_on g.C.Cell.hears g.F.Finder.book g.F.Finder.stands c.args.self.now.finder c.args.self.now.desk b h l.2 s c.take-column.new.lookback c.take-column.result c.tick.result c.tick.new.self (c.take-column.ensures.occur b (samples h) s l.2.sees ready.heard) c.tick.ensures c.take-column.new.finder (c.take-column.ensures.sees b (samples h) s l.2.sees ready.heard)));
+    }
 
 pub returns : goal.returns
 returns g c s ready =
