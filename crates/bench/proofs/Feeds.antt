@@ -17,10 +17,9 @@ use Rattle.standings.specs.Turning.{standing_at}
 use Rattle.bench.specs.declared.desks.Desk.{Desk}
 use Rattle.bench.specs.Due.{due_points}
 use Rattle.bench.specs.Firing.{any_fires}
-use Rattle.bench.specs.Listed.{listed}
-use Rattle.bench.specs.Lived.{Lives}
+use Rattle.bench.specs.Life.{Lives}
 use Rattle.bench.specs.Noted.{noted}
-use Rattle.bench.specs.Seen.{Sees, Occur}
+use Rattle.matching.specs.Seen.{Sees, Occur}
 use Rattle.bench.specs.Ticked.{Ticked}
 use Rattle.bench.proofs.Fires.{fired, due}
 use Rattle.bench.proofs.Histories.{earlier, alike}
@@ -69,7 +68,7 @@ module _ {C S F : Type 0} (hears : C → S → Bool) (book : F → Book C) (stan
   pub lives_on : (f' : F) → Sees hears book stands f' ring b (s ∷ samples h) → Lives hears book stands f' later b (feed s ∷ h)
   lives_on f' sees = record {
     sees = subst (λ x. Sees hears book stands f' x b (s ∷ samples h)) (sym ticked.lookback) sees;
-    lines = ap listed ticked.lines ∙ life.lines;
+    lines = ap (λ x. x.items) ticked.lines ∙ life.lines;
     ticks = ticked.count ∙ up;
     standings = λ n. ap (λ x. standing_at x n) ticked.standings ∙ life.standings n;
     recent = recent_is;

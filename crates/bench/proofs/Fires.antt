@@ -1,5 +1,5 @@
 -- The lines that fire are those that are reported, and the points that are due are the tick's.
-use Rattle.std.proofs.Common.{◌≡◌, ℕ, ◌+◌, ◌-◌, ◌≤◌, Bool, true, false, cond, ◌&&◌, ◌||◌, ltb, leb, [], ◌∷◌, ◌++◌, map, reverse, length, ℤ, pos, ◌+ℤ◌, sym, refl, ap, ◌∙◌, subst, ⊎_elim, arith}
+use Rattle.std.proofs.Common.{◌≡◌, ℕ, ◌+◌, ◌-◌, ◌≤◌, Bool, true, false, cond, ◌&&◌, ◌||◌, ltb, leb, [], ◌∷◌, ◌++◌, map, reverse, length, Some, None, ℤ, pos, ◌+ℤ◌, sym, refl, ap, ◌∙◌, subst, ⊎_elim, arith}
 use Rattle.std.specs.List.{AllByRecursion}
 use Rattle.std.proofs.lemmas.Bool.{and_parts, leb-true, cases_lt, lt-ltb, le-ltb, le-leb, lt-leb}
 use Rattle.book.specs.Book.{Line, Book, all_keywords, among, has_number}
@@ -13,25 +13,25 @@ use Rattle.history.specs.Reports.{reported, reports, numbers_reported}
 use Rattle.history.specs.Standing.{is_armed, mark}
 use Rattle.occurrences.specs.Occurring.{span, occurs}
 use Rattle.standings.specs.declared.tables.Standings.{Standings}
-use Rattle.standings.specs.declared.turns.Standing.TheVariants.{Absent, Armed, Resting}
+use Rattle.standings.specs.declared.turns.Standing.TheVariants.{Armed, Resting}
 use Rattle.standings.specs.Turning.{standing_at}
 use Rattle.bench.specs.declared.recent.Recent.{Recent}
 use Rattle.bench.specs.Due.{due_points}
 use Rattle.bench.specs.Firing.{starts_after, fires, any_fires}
 use Rattle.bench.specs.Listed.{watched_from, watched}
 use Rattle.bench.specs.Noted.{noted}
-use Rattle.bench.specs.Seen.{Occur}
+use Rattle.matching.specs.Seen.{Occur}
 use Rattle.bench.specs.Standings.{standing_in}
 use Rattle.bench.proofs.Histories.{count-samples, newest, among_reported}
 use Rattle.bench.proofs.Listings.{longer, moved}
 use Rattle.bench.proofs.Numbered.{eqb_swap, has_here, own_number}
-use Rattle.bench.proofs.Spots.{all_split}
+use Rattle.matching.proofs.Spots.{all_split}
 
 -- the start lies after the mark exactly when the end lies a span after it
 after_mark : (m sp t : ℕ) → sp ≤ t → leb (m + sp) t ≡ ltb m (t - sp + 1)
 after_mark m sp t h = ⊎_elim (λ l. le-leb (m + sp) t (omega arith) ∙ sym (lt-ltb m (t - sp + 1) l)) (λ l. lt-leb (m + sp) t (omega arith) ∙ sym (le-ltb m (t - sp + 1) l)) (cases_lt m (t - sp + 1))
 
-decides : (o a : Bool) (m sp t : ℕ) → (o ≡ true → sp ≤ t) → (o && starts_after (cond a (Armed m) Resting) sp t) ≡ (a && (o && ltb m (t - sp + 1)))
+decides : (o a : Bool) (m sp t : ℕ) → (o ≡ true → sp ≤ t) → (o && starts_after (Some (cond a (Armed m) Resting)) sp t) ≡ (a && (o && ltb m (t - sp + 1)))
 decides true true m sp t h = after_mark m sp t (h refl)
 decides true false m sp t h = refl
 decides false true m sp t h = refl
@@ -49,7 +49,7 @@ module _ {C S : Type 0} (hears : C → S → Bool) (b : Book C) (proper : Proper
         let o = occurs hears l (reverse (s ∷ samples h)) t in
         let told : marks.mark column k ≡ o = occ.tells before l behind e ∙ ap (occurs hears l (reverse (s ∷ samples h))) long in
         let here : has_number l.number b ≡ true = ap (has_number l.number) e ∙ has_here before l behind in
-        let stands = standing l.number ∙ ap (λ x. cond x (cond (is_armed h l.number) (Armed (mark h l.number)) Resting) Absent) here in
+        let stands = standing l.number ∙ ap (λ x. cond x (Some (cond (is_armed h l.number) (Armed (mark h l.number)) Resting)) None) here in
         (λ i. told i && starts_after (stands i) (span l) t)
         ∙ decides o (is_armed h l.number) (mark h l.number) (span l) t (λ y. leb-true (span l) t (and_parts (leb (span l) t) _ y).0)
 

@@ -1,19 +1,27 @@
 -- What a call leaves of a bench's life as it was.
-use Rattle.std.proofs.Common.{◌≡◌, ℕ, ◌+◌, ◌<◌, ◌≤◌, Bool, true, false, [], ◌∷◌, is_ok, sym, refl, ap, ◌∙◌, subst}
+use Rattle.std.proofs.Common.{◌≡◌, ℕ, ◌+◌, ◌<◌, ◌≤◌, Bool, true, false, cond, ◌&&◌, eqb, List, [], ◌∷◌, map, Some, None, is_ok, sym, refl, ap, ◌∙◌, subst}
+use Rattle.book.specs.declared.rows.LineRow.{LineRow}
 use Rattle.book.specs.Book.{Book, among}
+use Rattle.book.specs.Rows.{line_rows}
+use Rattle.book.specs.Rules.{within}
 use Rattle.history.specs.Answers.{verdict, after}
 use Rattle.history.specs.Calls.{arm, rest, clear, History, samples, count}
 use Rattle.history.specs.Reports.{numbers_reported}
 use Rattle.standings.specs.declared.tables.Standings.{Standings}
 use Rattle.standings.specs.declared.turns.Turn.{Turn}
 use Rattle.standings.specs.declared.turns.Turn.TheVariants.{Arm, Rest}
-use Rattle.standings.specs.Turning.{standing_at}
+use Rattle.standings.specs.declared.turns.Standing.TheVariants.{Armed}
+use Rattle.standings.specs.Turning.{turned, placed, standing_at, turned_at, first_standing}
 use Rattle.bench.specs.declared.desks.Desk.{Desk}
 use Rattle.bench.specs.Keeping.{turn_of}
-use Rattle.bench.specs.Lived.{Lives}
-use Rattle.bench.specs.Seen.{Sees}
+use Rattle.bench.specs.Listed.{watched}
+use Rattle.bench.specs.Life.{Lives}
+use Rattle.bench.specs.Noted.{noted}
+use Rattle.matching.specs.Seen.{Sees}
 use Rattle.bench.specs.Standings.{standing_in}
-use Rattle.bench.proofs.Histories.{alike}
+use Rattle.bench.proofs.Histories.{none_reported, alike}
+use Rattle.bench.proofs.Numbered.{row_numbers, has_within}
+use Rattle.bench.proofs.Turns.{placed_turned, stands_after}
 
 module _ {C S : Type 0} (hears : C → S → Bool) (takes : S → Bool) (b : Book C) (h : History S) (n : ℕ) where
   -- a turn of a line is no tick
@@ -53,32 +61,48 @@ module _ {C S : Type 0} (hears : C → S → Bool) (takes : S → Bool) (b : Boo
       go true = alike hears b (rest n ∷ h) h i i (λ l. refl)
       go false = refl
 
-module _ {C S F : Type 0} (hears : C → S → Bool) (book : F → Book C) (stands : F → ℕ → Bool) (takes : S → Bool) where
+module _ {C S F : Type 0} (hears : C → S → Bool) (book : F → Book C) (stands : F → ℕ → Bool) where
   -- a turn of a line changes the standings alone
-  pub turn_kept : (f : F) (d : Desk) (b : Book C) (h : History S) → Lives hears book stands f d b h → (n : ℕ) (t : Turn) (st : Standings)
-      → ((m : ℕ) → standing_at st m ≡ standing_in b (after takes b h (turn_of t n)) m)
+  pub turn_kept : (takes : S → Bool) (f : F) (d : Desk) (b : Book C) (h : History S) → Lives hears book stands f d b h → (n : ℕ) (t : Turn) (st : Standings)
+      → st.at ≡ turned_at d.standings n t d.count
       → Lives hears book stands f (record { lines = d.lines; lookback = d.lookback; standings = st; recent = d.recent; count = d.count }) b (after takes b h (turn_of t n))
-  turn_kept f d b h r n t st e =
+  turn_kept takes f d b h r n t st e =
       let later = after takes b h (turn_of t n) in
       let c = same_count hears takes b h n t in
       record {
         sees = subst (Sees hears book stands f d.lookback b) (sym (same_samples hears takes b h n t)) r.sees;
         lines = r.lines;
         ticks = r.ticks ∙ sym c;
-        standings = e;
+        standings = λ m.
+            ap (λ at. placed at m) e
+            ∙ placed_turned d.standings n m t d.count
+            ∙ (λ i. cond (eqb n m) (turned (r.standings n i) t (r.ticks i)) (r.standings m i))
+            ∙ stands_after takes b h n m t;
         recent = λ i low near m.
             r.recent i (subst (λ x. i ≤ x) c low) (subst (λ x. x < i + 64) c near) m
             ∙ ap (among m) (sym (same_reports hears takes b h n t i));
       }
 
-  -- a bench that is made anew over its finder has been cleared
-  pub cleared : (f : F) (d : Desk) (a b : Book C) (h : History S) → a ≡ b → Lives hears book stands f d a [] → Lives hears book stands f d b (clear ∷ h)
-  cleared f d a b h same r =
-      let q = subst (λ x. Lives hears book stands f d x []) same r in
-      record {
-        sees = q.sees;
-        lines = q.lines;
-        ticks = q.ticks;
-        standings = q.standings;
-        recent = λ i low near n. q.recent i low near n ∙ ap (among n) (alike hears b [] (clear ∷ h) i i (λ l. refl));
-      }
+  -- a desk that has just been made, or made anew, has been through nothing
+  pub fresh : (f : F) (d : Desk) (b : Book C) → Sees hears book stands f d.lookback b [] → d.lines.items ≡ watched b → d.count ≡ 0 → (rows : List LineRow) → rows ≡ line_rows b
+      → ((n : ℕ) → standing_at d.standings n ≡ first_standing rows n) → ((i n : ℕ) → noted d.recent i n ≡ false) → Lives hears book stands f d b []
+  fresh f d b sees lines ticks rows same standings none = record {
+    sees = sees;
+    lines = lines;
+    ticks = ticks;
+    standings = λ n.
+        standings n
+        ∙ (λ i. cond (within 1 128 n && among n ((ap (map (λ l. l.number)) same ∙ row_numbers 0 b) i)) (Some (Armed 0)) None)
+        ∙ ap (λ t. cond t (Some (Armed 0)) None) (has_within b n sees.finder.proper.each);
+    recent = λ i low near n. none i n ∙ sym (none_reported hears b i n);
+  }
+
+  -- and after a clear it is the same
+  pub cleared : (f : F) (d : Desk) (b : Book C) (h : History S) → Lives hears book stands f d b [] → Lives hears book stands f d b (clear ∷ h)
+  cleared f d b h r = record {
+    sees = r.sees;
+    lines = r.lines;
+    ticks = r.ticks;
+    standings = r.standings;
+    recent = λ i low near n. r.recent i low near n ∙ ap (among n) (alike hears b [] (clear ∷ h) i i (λ l. refl));
+  }

@@ -1,4 +1,3 @@
-pub mod Spots
 pub mod Listings
 pub mod Histories
 pub mod Numbered

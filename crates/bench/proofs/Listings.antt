@@ -13,7 +13,7 @@ use Rattle.book.specs.Rows.{line_rows, line_rows_from, keyword_rows, keyword_row
 use Rattle.occurrences.specs.Occurring.{span}
 use Rattle.occurrences.proofs.InBook.{joined-append, gaps_even}
 use Rattle.bench.specs.Listed.{row_span, watched_row, watched_from, watched, ListableRow, Listable}
-use Rattle.bench.proofs.Spots.{rows_count, all_split}
+use Rattle.matching.proofs.Spots.{rows_count, all_split}
 
 rows_append : (p : ℕ) (gs hs ns ms : List ℕ) → length gs ≡ length ns → keyword_rows_from p (gs ++ hs) (ns ++ ms) ≡ keyword_rows_from p gs ns ++ keyword_rows_from (p + total ns) hs ms
 rows_append p [] hs [] ms e = let z : p ≡ p + 0 = omega arith in ap (λ x. keyword_rows_from x hs ms) z

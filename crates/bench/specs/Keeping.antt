@@ -1,9 +1,11 @@
 -- What a call does to a bench, whatever the bench has been through.
 use Rattle.std.specs.Prelude.{◌≡◌, ℕ, ◌<◌, Bool, ℤ, is_some, Some, Ok, Err, Option, Result}
 use Rattle.refusals.specs.declared.Refusal.{Refusal}
+use Rattle.cells.specs.declared.kinds.Cell as Cell
 use Rattle.columns.specs.declared.numbers.Numbers.{Numbers}
 use Rattle.columns.specs.Numbers.{member}
 use Rattle.book.specs.Book.{Book}
+use Rattle.finders.specs.declared.finding.Finder as Finder
 use Rattle.history.specs.Answers.{verdict, after}
 use Rattle.history.specs.Calls.{Call, feed, arm, rest, History}
 use Rattle.history.specs.Told.{Told, feed_answer}
@@ -12,7 +14,7 @@ use Rattle.standings.specs.declared.turns.Turn.TheVariants.{Arm, Rest}
 use Rattle.bench.specs.declared.benches.Bench.{Bench}
 use Rattle.bench.specs.declared.states.LineState.{LineState}
 use Rattle.bench.specs.Lived.{Represents}
-use Rattle.bench.specs.Seen.{Heard}
+use Rattle.matching.specs.Seen.{Heard}
 use Rattle.bench.specs.Standings.{standing_answer}
 
 -- whether a sort of finder takes a sample
@@ -29,24 +31,25 @@ abbrev pub turn_of : {S : Type 0} → Turn → ℕ → Call S
 turn_of Arm n = arm n
 turn_of Rest n = rest n
 
-module _ {C S F Y : Type 0} (hears : C → S → Bool) (reads : S → Option Y) (book : F → Book C) (stands : F → ℕ → Bool) where
+-- over a kind of cell and a sort of finder, by what their traits say of them
+module _ {C F S X Y : Type 0} (cell : Cell.Ghosts C S X) (finder : Finder.Ghosts F C Y S X) where
   -- A feed: whichever book and history a bench has, the answer is the defined one, and the bench has later been through
   -- the history after the call.
-  pub record Fed (bench : Bench C F) (s : S) (r : Result (ℕ × Numbers × ℤ) Refusal) (later : Bench C F) : Type 0 where
-    pub answer : (b : Book C) (h : History S) → Represents hears book stands bench b h → told r ≡ feed_answer hears (takes reads) b h s
-    pub history : (b : Book C) (h : History S) → Represents hears book stands bench b h → Represents hears book stands later b (after (takes reads) b h (feed s))
+  pub record Fed (bench : Bench C F S X Y cell finder) (s : S) (r : Result (ℕ × Numbers × ℤ) Refusal) (later : Bench C F S X Y cell finder) : Type 0 where
+    pub answer : (b : Book C) (h : History S) → Represents cell finder bench b h → told r ≡ feed_answer cell.hears (takes finder.reads) b h s
+    pub history : (b : Book C) (h : History S) → Represents cell finder bench b h → Represents cell finder later b (after (takes finder.reads) b h (feed s))
 
   -- Arm, rest or clear: likewise.
-  pub record Did (bench : Bench C F) (c : Call S) (r : Result (Unit {0}) Refusal) (later : Bench C F) : Type 0 where
-    pub answer : (b : Book C) (h : History S) → Represents hears book stands bench b h → r ≡ verdict (takes reads) b h c
-    pub history : (b : Book C) (h : History S) → Represents hears book stands bench b h → Represents hears book stands later b (after (takes reads) b h c)
+  pub record Did (bench : Bench C F S X Y cell finder) (c : Call S) (r : Result (Unit {0}) Refusal) (later : Bench C F S X Y cell finder) : Type 0 where
+    pub answer : (b : Book C) (h : History S) → Represents cell finder bench b h → r ≡ verdict (takes finder.reads) b h c
+    pub history : (b : Book C) (h : History S) → Represents cell finder bench b h → Represents cell finder later b (after (takes finder.reads) b h c)
 
   -- The standing question: likewise, and nothing is altered.
-  pub record Stands (bench : Bench C F) (n : ℕ) (r : Option LineState) : Type 0 where
-    pub answer : (b : Book C) (h : History S) → Represents hears book stands bench b h → r ≡ standing_answer b h n
+  pub record Stands (bench : Bench C F S X Y cell finder) (n : ℕ) (r : Option LineState) : Type 0 where
+    pub answer : (b : Book C) (h : History S) → Represents cell finder bench b h → r ≡ standing_answer b h n
 
   -- a sample that feed does not refuse, and the symbol that it is read as
-  pub record Ready (admits : C → Y → Bool) (bench : Bench C F) (s : S) (y : Y) : Type 0 where
-    pub read : reads s ≡ Some y
-    pub heard : Heard hears admits y s
+  pub record Ready (bench : Bench C F S X Y cell finder) (s : S) (y : Y) : Type 0 where
+    pub read : finder.reads s ≡ Some y
+    pub heard : Heard cell.hears finder.admits y s
     pub room : bench.desk.count < 4000000000

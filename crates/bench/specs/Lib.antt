@@ -3,7 +3,7 @@ pub mod Noted
 pub mod Firing
 pub mod Due
 pub mod Ticked
-pub mod Seen
 pub mod Standings
+pub mod Life
 pub mod Lived
 pub mod Keeping

@@ -7,11 +7,6 @@ use Rattle.book.specs.Cutting.{total}
 use Rattle.book.specs.Rules.{points_ok}
 use Rattle.occurrences.specs.Occurring.{span}
 use Rattle.bench.specs.declared.lines.Watched.{Watched}
-use Rattle.bench.specs.declared.lines.Lines.{Lines}
-
--- the lines that are taken down
-abbrev pub listed : Lines → List Watched
-listed l = take l.used l.at
 
 -- the span of a line by its rows: the gap before each keyword, and its length
 unfoldable pub row_span : List KeywordRow → LineRow → ℕ

@@ -1,25 +1,13 @@
 -- What a bench has been through.
-use Rattle.std.specs.Prelude.{◌≡◌, ℕ, ◌+◌, ◌<◌, ◌≤◌, Bool}
-use Rattle.book.specs.Book.{Book, among}
-use Rattle.history.specs.Calls.{History, samples, count}
-use Rattle.history.specs.Reports.{numbers_reported}
-use Rattle.standings.specs.Turning.{standing_at}
+use Rattle.cells.specs.declared.kinds.Cell as Cell
+use Rattle.book.specs.Book.{Book}
+use Rattle.finders.specs.declared.finding.Finder as Finder
+use Rattle.history.specs.Calls.{History}
 use Rattle.bench.specs.declared.benches.Bench.{Bench}
-use Rattle.bench.specs.declared.desks.Desk.{Desk}
-use Rattle.bench.specs.Listed.{listed, watched}
-use Rattle.bench.specs.Noted.{noted}
-use Rattle.bench.specs.Seen.{Sees}
-use Rattle.bench.specs.Standings.{standing_in}
+use Rattle.bench.specs.Life.{Lives}
 
-module _ {C S F : Type 0} (hears : C → S → Bool) (book : F → Book C) (stands : F → ℕ → Bool) where
-  -- a finder and a desk are those of a bench of a book after a history
-  pub record Lives (f : F) (d : Desk) (b : Book C) (h : History S) : Type 0 where
-    pub sees : Sees hears book stands f d.lookback b (samples h)
-    pub lines : listed d.lines ≡ watched b
-    pub ticks : d.count ≡ count h
-    pub standings : (n : ℕ) → standing_at d.standings n ≡ standing_in b h n
-    pub recent : (i : ℕ) → i ≤ count h → count h < i + 64 → (n : ℕ) → noted d.recent i n ≡ among n (numbers_reported hears b h i)
-
+-- over a kind of cell and a sort of finder, by what their traits say of them
+module _ {C F S X Y : Type 0} (cell : Cell.Ghosts C S X) (finder : Finder.Ghosts F C Y S X) where
   -- a bench of a book has been through a history
-  pub record Represents (bench : Bench C F) (b : Book C) (h : History S) : Type 0 where
-    pub lives : Lives bench.finder bench.desk b h
+  pub record Represents (bench : Bench C F S X Y cell finder) (b : Book C) (h : History S) : Type 0 where
+    pub lives : Lives cell.hears finder.book finder.stands bench.finder bench.desk b h

@@ -4,6 +4,5 @@
 pub mod benches;
 mod desks;
 mod lines;
-mod matching;
 mod recent;
 pub mod states;

@@ -1,6 +1,6 @@
 -- Keywords that have ended are those that are spotted.
-use Rattle.std.proofs.Common.{◌≡◌, ℕ, zero, suc, ◌+◌, ◌-◌, ◌<◌, ◌≤◌, Bool, true, false, cond, leb, List, [], ◌∷◌, ◌++◌, map, reverse, length, take, sym, refl, ap, ◌∙◌, append_assoc, arith}
-use Rattle.std.specs.List.{flat_map, AllByRecursion, list_all}
+use Rattle.std.proofs.Common.{◌≡◌, ℕ, zero, suc, ◌+◌, ◌-◌, ◌<◌, ◌≤◌, Bool, true, false, cond, leb, List, [], ◌∷◌, ◌++◌, map, reverse, length, take, refl, ap, ◌∙◌, arith}
+use Rattle.std.specs.List.{AllByRecursion, list_all}
 use Rattle.std.proofs.lemmas.List.{take_all, length-map, length-append}
 use Rattle.std.proofs.ByRecursion.{All-append}
 use Rattle.std.proofs.lemmas.Bool.{lt-ltb, le-ltb, and_parts, leb-true}
@@ -11,6 +11,7 @@ use Rattle.book.specs.Rules.{length_ok}
 use Rattle.finders.specs.Latest.{admit_all, runs_among}
 use Rattle.finders.specs.Runs.{ends_among, ends}
 use Rattle.occurrences.specs.Spotting.{spotted_among}
+use Rattle.occurrences.proofs.InBook.{joined-append}
 
 pub rows_count : (p : ℕ) (gs ns : List ℕ) → length (keyword_rows_from p gs ns) ≡ length ns
 rows_count p gs [] = refl
@@ -67,10 +68,6 @@ module _ {C S : Type 0} (hears : C → S → Bool) (newest : List S) where
   -- the keywords of a book that have ended, where its runs are those of the samples
   pub spots : (b : Book C) (stood : ℕ → Bool) (k : ℕ) → AllByRecursion ProperLine b → ((p : ℕ) → stood p ≡ runs_among hears (all_keywords b) newest p) → ends b stood k ≡ spotted_among hears (all_keywords b) newest k
   spots b stood k q e = ends_spotted stood (all_keywords b) (all_gaps b) 0 k (words_some b q) (λ j. let z : 0 + j ≡ j = omega arith in ap stood z ∙ e j)
-
-joined-append : {X Y : Type 0} (f : X → List Y) (xs ys : List X) → flat_map f (xs ++ ys) ≡ flat_map f xs ++ flat_map f ys
-joined-append f [] ys = refl
-joined-append f (x ∷ xs) ys = ap (λ zs. f x ++ zs) (joined-append f xs ys) ∙ sym (append_assoc (f x) _ _)
 
 -- the number of a line's last keyword is one of the book's
 pub last_below : {C : Type 0} (before : Book C) (l : Line C) (behind : Book C) → ProperLine l → length (all_keywords before) + (length l.keywords - 1) < length (all_keywords (before ++ l ∷ behind))

@@ -1,4 +1,4 @@
--- What a matcher has seen.
+-- What a finder and a look-back ring have seen.
 use Rattle.std.specs.Prelude.{◌≡◌, ℕ, ◌+◌, ◌-◌, Bool, List, ◌∷◌, ◌++◌, reverse, length}
 use Rattle.book.specs.Book.{Line, Book, all_keywords}
 use Rattle.book.specs.Proper.{Proper}
@@ -6,13 +6,17 @@ use Rattle.book.specs.Rows.{line_rows, keyword_rows}
 use Rattle.columns.specs.declared.marks.Column.{Column}
 use Rattle.columns.specs.Marks.{mark}
 use Rattle.finders.specs.Latest.{runs_among}
+use Rattle.lookback.specs.declared.lookbacks.Lookback.{Lookback}
 use Rattle.lookback.specs.Represented.{Represents}
 use Rattle.lookback.specs.Ticking.{Ended}
 use Rattle.occurrences.specs.Occurring.{occurs}
 use Rattle.occurrences.specs.Spotting.{spotted_among, pasts}
-use Rattle.matching.specs.declared.matchers.Matcher.{Matcher}
 
 module _ {C S : Type 0} (hears : C → S → Bool) where
+  -- a symbol is what a sample was read as: the cells that admit the one hear the other
+  pub record Heard {Y : Type 0} (admits : C → Y → Bool) (y : Y) (s : S) : Type 0 where
+    pub alike : (c : C) → admits c y ≡ hears c s
+
   -- a finder of a book has had some samples, the newest first, and has their runs
   pub record Has {F : Type 0} (book : F → Book C) (stands : F → ℕ → Bool) (f : F) (b : Book C) (newest : List S) : Type 0 where
     pub of : book f ≡ b
@@ -23,13 +27,12 @@ module _ {C S : Type 0} (hears : C → S → Bool) where
   pub record Spots (column : Column) (b : Book C) (newest : List S) : Type 0 where
     pub ended : Ended column (keyword_rows b) (spotted_among hears (all_keywords b) newest)
 
-  -- a matcher of a book has seen some samples: its finder has had them, and its ring shows the prefixes
-  pub record Sees {F : Type 0} (book : F → Book C) (stands : F → ℕ → Bool) (m : Matcher C F) (b : Book C) (newest : List S) : Type 0 where
-    pub finder : Has book stands m.finder b newest
-    pub ring : Represents m.lookback (line_rows b) (keyword_rows b) (pasts hears b newest)
+  -- a finder of a book and a ring have seen some samples: the finder has had them, and the ring shows the prefixes
+  pub record Sees {F : Type 0} (book : F → Book C) (stands : F → ℕ → Bool) (f : F) (r : Lookback) (b : Book C) (newest : List S) : Type 0 where
+    pub finder : Has book stands f b newest
+    pub ring : Represents r (line_rows b) (keyword_rows b) (pasts hears b newest)
 
   -- the mark of each line's last keyword tells whether the line occurs ending at the newest tick
-  abbrev pub Occur : Column → Book C → List S → Type 0
-  Occur column b newest =
-      (before : Book C) (l : Line C) (behind : Book C) → b ≡ before ++ l ∷ behind
-      → mark column (length (all_keywords before) + (length l.keywords - 1)) ≡ occurs hears l (reverse newest) (length newest)
+  pub record Occur (column : Column) (b : Book C) (newest : List S) : Type 0 where
+    pub tells : (before : Book C) (l : Line C) (behind : Book C) → b ≡ before ++ l ∷ behind
+        → mark column (length (all_keywords before) + (length l.keywords - 1)) ≡ occurs hears l (reverse newest) (length newest)

@@ -38,7 +38,7 @@ fn answer<C: Cell, F: Finder<C>>(
     bench: &mut Bench<C, F>,
     command: Command<C::Sample>,
 ) -> Result<Answer, Refusal>
-    ensures { Answered C.Cell.hears F.Finder.reads F.Finder.book F.Finder.stands bench.old command result bench.new }
+    ensures { Answered C.Cell F.Finder bench.old command result bench.new }
 {
     match command {
         Command::Feed(sample) => tick_of(bench.feed(sample)),
@@ -62,9 +62,9 @@ fn run_three<C: Cell, W: Finder<C>, X: Finder<C>, Y: Finder<C>>(
     log: &mut [Trio],
 )
     requires { (steps ≤ length commands.now) × (steps ≤ length log.old) }
-    ensures whole { Ran C.Cell.hears W.Finder.reads W.Finder.book W.Finder.stands whole.old (take steps commands.now) (map (λ t. t.whole) (take steps log.new)) whole.new }
-    ensures first { Ran C.Cell.hears X.Finder.reads X.Finder.book X.Finder.stands first.old (take steps commands.now) (map (λ t. t.first) (take steps log.new)) first.new }
-    ensures second { Ran C.Cell.hears Y.Finder.reads Y.Finder.book Y.Finder.stands second.old (take steps commands.now) (map (λ t. t.second) (take steps log.new)) second.new }
+    ensures whole { Ran C.Cell W.Finder whole.old (take steps commands.now) (map (λ t. t.whole) (take steps log.new)) whole.new }
+    ensures first { Ran C.Cell X.Finder first.old (take steps commands.now) (map (λ t. t.first) (take steps log.new)) first.new }
+    ensures second { Ran C.Cell Y.Finder second.old (take steps commands.now) (map (λ t. t.second) (take steps log.new)) second.new }
     ensures beyond { drop steps log.new ≡ drop steps log.old }
 {
     for i in 0..steps {

@@ -5,9 +5,9 @@ use crate::turns::Standing;
 
 pub mod turning;
 
-/// The standing of each number from 1 to 128.
+/// The standing of each number from 1 to 128: none where the book has no line of that number.
 #[derive(Clone, Copy)]
 pub struct Standings {
-    at: [Standing; 128],
+    at: [Option<Standing>; 128],
     ghost whole: { length at ≡ 128 },
 }

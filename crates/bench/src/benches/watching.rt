@@ -2,18 +2,19 @@
 ghost use Rattle.std.specs.Prelude.{◌≡◌, [], IfOk, IfErr, Ok, Err};
 ghost use Rattle.history.specs.Calls.{arm, rest, clear};
 ghost use Rattle.bench.specs.Keeping.{Fed, Did, Stands, Ready, turn_of};
-ghost use Rattle.bench.specs.Lived.{Lives, Represents};
+ghost use Rattle.bench.specs.Life.{Lives};
+ghost use Rattle.bench.specs.Lived.{Represents};
 ghost use Rattle.bench.specs.Standings.{shown};
 
 use crate::benches::Bench;
 use crate::desks::Desk;
-use crate::lines::Lines;
-use crate::matching::{start, take};
+use crate::lines::listing::watched_lines;
 use crate::recent::Recent;
 use crate::states::LineState;
 use cells::kinds::Cell;
 use columns::numbers::Numbers;
 use finders::finding::Finder;
+use matching::{clear, start, take};
 use refusals::Refusal;
 use standings::tables::Standings;
 use standings::turns::{Standing, Turn};
@@ -29,7 +30,7 @@ fn begin<C: Cell, F: Finder<C>>(finder: &mut F) -> Desk
     let lookback = start::<C, F>(finder);
     let lines = finder.lines();
     Desk {
-        lines: Lines::new::<C>(lines, finder.keywords()),
+        lines: watched_lines::<C>(lines, finder.keywords()),
         lookback,
         standings: Standings::new(lines),
         recent: Recent::none(),
@@ -41,7 +42,7 @@ impl<C: Cell, F: Finder<C>> Bench<C, F> {
     /// A bench over a finder, which it takes over and clears: no tick is counted, every line is armed with mark 0, and
     /// no points are due.
     pub fn new(finder: F) -> Bench<C, F>
-        ensures { Represents C.Cell.hears F.Finder.book F.Finder.stands result (F.Finder.book finder) [] }
+        ensures { Represents C.Cell F.Finder result (F.Finder.book finder) [] }
     {
         let mut finder = finder;
         let desk = begin::<C, F>(&mut finder);
@@ -54,8 +55,8 @@ impl<C: Cell, F: Finder<C>> Bench<C, F> {
 
     // The symbol of a sample that a feed accepts, or the refusal.
     fn admit(&self, sample: C::Sample) -> Result<F::Symbol, Refusal>
-        ensures accepted { IfOk result (λ y. Ready C.Cell.hears F.Finder.reads F.Finder.book F.Finder.stands F.Finder.admits self.now sample y) }
-        ensures refused { IfErr result (λ e. Fed C.Cell.hears F.Finder.reads F.Finder.book F.Finder.stands self.now sample (Err e) self.now) }
+        ensures accepted { IfOk result (λ y. Ready C.Cell F.Finder self.now sample y) }
+        ensures refused { IfErr result (λ e. Fed C.Cell F.Finder self.now sample (Err e) self.now) }
     {
         let Some(symbol) = F::read(sample) else {
             return Err(Refusal::NoSymbol);
@@ -66,12 +67,11 @@ impl<C: Cell, F: Finder<C>> Bench<C, F> {
         Ok(symbol)
     }
 
-    // Counts a tick, at which a sample came that was read as a symbol.
-    fn advance(&mut self, sample: C::Sample, symbol: F::Symbol) -> (u32, Numbers, i32)
-        requires { Ready C.Cell.hears F.Finder.reads F.Finder.book F.Finder.stands F.Finder.admits self.old sample symbol }
-        ensures { Fed C.Cell.hears F.Finder.reads F.Finder.book F.Finder.stands self.old sample (Ok result) self.new }
+    // Counts a tick, at which a symbol came: that of any sample that was read as it.
+    fn advance(&mut self, symbol: F::Symbol) -> (u32, Numbers, i32)
+        requires { (s : C.Sample) × Ready C.Cell F.Finder self.old s symbol }
+        ensures { (s : C.Sample) → Ready C.Cell F.Finder self.old s symbol → Fed C.Cell F.Finder self.old s (Ok result) self.new }
     {
-        let _ = sample;
         let column = take::<C, F>(&mut self.finder, &mut self.desk.lookback, symbol);
         self.desk.tick(column)
     }
@@ -79,15 +79,15 @@ impl<C: Cell, F: Finder<C>> Bench<C, F> {
     /// Feeds the sample of the next tick: answers the tick, the numbers of the lines that are reported, and the points
     /// that are due. It refuses a sample that its finder does not take, and any past 4,000,000,000 ticks.
     pub fn feed(&mut self, sample: C::Sample) -> Result<(u32, Numbers, i32), Refusal>
-        ensures { Fed C.Cell.hears F.Finder.reads F.Finder.book F.Finder.stands self.old sample result self.new }
+        ensures { Fed C.Cell F.Finder self.old sample result self.new }
     {
         let symbol = self.admit(sample)?;
-        Ok(self.advance(sample, symbol))
+        Ok(self.advance(symbol))
     }
 
     // Arms or rests a line.
     fn turn(&mut self, number: u16, turn: Turn) -> Result<(), Refusal>
-        ensures { Did C.Cell.hears F.Finder.reads F.Finder.book F.Finder.stands self.old (turn_of turn number) result self.new }
+        ensures { Did C.Cell F.Finder self.old (turn_of turn number) result self.new }
     {
         let count = self.desk.count;
         self.desk.standings.turn(number, turn, count)
@@ -95,48 +95,46 @@ impl<C: Cell, F: Finder<C>> Bench<C, F> {
 
     /// Arms a resting line: only occurrences that start after the present tick are reported from here on.
     pub fn arm(&mut self, number: u16) -> Result<(), Refusal>
-        ensures { Did C.Cell.hears F.Finder.reads F.Finder.book F.Finder.stands self.old (arm number) result self.new }
+        ensures { Did C.Cell F.Finder self.old (arm number) result self.new }
     {
         self.turn(number, Turn::Arm)
     }
 
     /// Rests an armed line: it is not reported from here on.
     pub fn rest(&mut self, number: u16) -> Result<(), Refusal>
-        ensures { Did C.Cell.hears F.Finder.reads F.Finder.book F.Finder.stands self.old (rest number) result self.new }
+        ensures { Did C.Cell F.Finder self.old (rest number) result self.new }
     {
         self.turn(number, Turn::Rest)
     }
 
-    // Makes the bench anew over its own finder.
+    // Forgets every tick and every turn; the lines stay.
     fn restart(&mut self)
-        ensures { Did C.Cell.hears F.Finder.reads F.Finder.book F.Finder.stands self.old clear (Ok tt) self.new }
+        ensures { Did C.Cell F.Finder self.old clear (Ok tt) self.new }
     {
-        let desk = begin::<C, F>(&mut self.finder);
-        self.desk = desk;
+        clear::<C, F>(&mut self.finder, &mut self.desk.lookback);
+        self.desk.standings = Standings::new(self.finder.lines());
+        self.desk.recent = Recent::none();
+        self.desk.count = 0;
     }
 
     /// Returns to the just made condition.
     pub fn clear(&mut self)
-        ensures { Did C.Cell.hears F.Finder.reads F.Finder.book F.Finder.stands self.old clear (Ok tt) self.new }
+        ensures { Did C.Cell F.Finder self.old clear (Ok tt) self.new }
     {
         self.restart();
     }
 
     // The standing of a number, as it is kept.
-    fn kept_standing(&self, number: u16) -> Standing
-        ensures { Stands C.Cell.hears F.Finder.reads F.Finder.book F.Finder.stands self.now number (shown result) }
+    fn kept_standing(&self, number: u16) -> Option<Standing>
+        ensures { Stands C.Cell F.Finder self.now number (shown result) }
     {
         self.desk.standings.standing(number)
     }
 
     /// Whether a line is armed or resting; absent where the book has no line of that number.
     pub fn standing(&self, number: u16) -> Option<LineState>
-        ensures { Stands C.Cell.hears F.Finder.reads F.Finder.book F.Finder.stands self.now number result }
+        ensures { Stands C.Cell F.Finder self.now number result }
     {
-        match self.kept_standing(number) {
-            Standing::Absent => None,
-            Standing::Armed { .. } => Some(LineState::Armed),
-            Standing::Resting => Some(LineState::Resting),
-        }
+        self.kept_standing(number).map(LineState::from)
     }
 }

@@ -1,19 +1,23 @@
 // How the lines are taken down.
-ghost use Rattle.std.specs.Prelude.{◌≡◌, ◌+◌, ◌≤◌, map, length};
-ghost use Rattle.bench.specs.Listed.{listed, watched_row, row_span, Listable, ListableRow};
+ghost use Rattle.std.specs.Prelude.{◌≡◌, ◌+◌, ◌≤◌, map, length, sum};
+ghost use Rattle.bench.specs.Listed.{watched_row, row_span, Listable, ListableRow};
 
-use crate::lines::{Lines, Watched};
+use crate::lines::Watched;
+use arrayvec::ArrayVec;
 use book::rows::{KeywordRow, LineRow};
 use cells::kinds::Cell;
 use occurrences::last_keyword;
 
-const NO_LINE: Watched = Watched {
-    number: 0,
-    points: 0,
-    lag: 0,
-    last: 0,
-    span: 0,
-};
+// The cells of some keywords, and the gaps before them.
+fn reach(keywords: &[KeywordRow]) -> u32
+    requires { length keywords.now ≤ 255 }
+    ensures { result ≡ sum (map (λ k. k.gap + k.length) keywords.now) }
+{
+    keywords
+        .iter()
+        .map(|k| k.gap as u32 + k.length as u32)
+        .sum()
+}
 
 // The span of a line: the cells of its keywords and the gaps between them.
 fn span(line: &LineRow, keywords: &[KeywordRow]) -> u32
@@ -21,13 +25,7 @@ fn span(line: &LineRow, keywords: &[KeywordRow]) -> u32
     ensures { result ≡ row_span keywords.now line.now }
 {
     let first = line.first as usize;
-    let end = first + line.keywords as usize;
-    let own = &keywords[first..end];
-    let mut span = 0;
-    for keyword in own {
-        span += keyword.gap as u32 + keyword.length as u32;
-    }
-    span
+    reach(&keywords[first..first + line.keywords as usize])
 }
 
 impl Watched {
@@ -46,27 +44,17 @@ impl Watched {
     }
 }
 
-impl Lines {
-    // The lines of a book by its rows.
-    pub(crate) fn new<C: Cell>(lines: &[LineRow], keywords: &[KeywordRow]) -> Lines
-        requires { Listable lines.now keywords.now }
-        ensures { listed result ≡ map (watched_row keywords.now) lines.now }
-    {
-        let mut at = [NO_LINE; 128];
-        for i in 0..lines.len() {
-            at[i] = Watched::new::<C>(&lines[i], keywords);
-        }
-        Lines {
-            at,
-            used: lines.len(),
-        }
+// The lines of a book by its rows, in entry order.
+pub(crate) fn watched_lines<C: Cell>(
+    lines: &[LineRow],
+    keywords: &[KeywordRow],
+) -> ArrayVec<Watched, 128>
+    requires { Listable lines.now keywords.now }
+    ensures { result.items ≡ map (watched_row keywords.now) lines.now }
+{
+    let mut all = ArrayVec::new();
+    for line in lines {
+        all.push(Watched::new::<C>(line, keywords));
     }
-
-    /// The lines, in entry order.
-    pub(crate) fn all(&self) -> &[Watched]
-        ensures value { result.now ≡ listed self.now }
-        ensures few { length result.now ≤ 128 }
-    {
-        &self.at[0..self.used]
-    }
+    all
 }

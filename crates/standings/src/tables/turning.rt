@@ -1,5 +1,5 @@
 // How standings are made, asked and turned.
-ghost use Rattle.std.specs.Prelude.{◌≡◌, ℕ, ◌-◌, length, if◌then◌else◌, slice_set};
+ghost use Rattle.std.specs.Prelude.{◌≡◌, ℕ, ◌-◌, length, Some, None, if◌then◌else◌};
 ghost use Rattle.book.specs.Rules.{within};
 ghost use Rattle.standings.specs.Turning.{placed, standing_at, answer, turned_at, first_standing};
 
@@ -8,23 +8,27 @@ use crate::turns::{Standing, Turn};
 use book::rows::LineRow;
 use refusals::Refusal;
 
-// Arms a number with mark 0.
-fn arm_at_first(at: &mut [Standing; 128], number: usize)
-    ensures { at.new ≡ (if within 1 128 number then slice_set at.old (number - 1) (Standing.Armed 0) else at.old) }
+// The place of a number in a table that has number 1 first, and 128 last.
+fn place(number: u16) -> Option<usize>
+    ensures { result ≡ (if within 1 128 number then Some (number - 1) else None) }
 {
-    if 1 <= number && number <= 128 {
-        at[number - 1] = Standing::Armed { mark: 0 };
+    if (1..=128).contains(&number) {
+        Some(number as usize - 1)
+    } else {
+        None
     }
 }
 
 // The places of a table in which every line is armed, with mark 0.
-fn all_armed(lines: &[LineRow]) -> [Standing; 128]
+fn all_armed(lines: &[LineRow]) -> [Option<Standing>; 128]
     ensures whole { length result ≡ 128 }
     ensures standings { (n : ℕ) → placed result n ≡ first_standing lines.now n }
 {
-    let mut at = [Standing::Absent; 128];
+    let mut at = [None; 128];
     for line in lines {
-        arm_at_first(&mut at, line.number as usize);
+        if let Some(place) = place(line.number as u16) {
+            at[place] = Some(Standing::Armed { mark: 0 });
+        }
     }
     at
 }
@@ -39,16 +43,11 @@ impl Standings {
         }
     }
 
-    /// The standing of a number: absent for one that is no line's.
-    pub fn standing(&self, number: u16) -> Standing
+    /// The standing of a number: none for one that is no line's.
+    pub fn standing(&self, number: u16) -> Option<Standing>
         ensures { result ≡ standing_at self.now number }
     {
-        let place = number as usize;
-        if 1 <= place && place <= 128 {
-            self.at[place - 1]
-        } else {
-            Standing::Absent
-        }
+        self.at[place(number)?]
     }
 
     /// Arms or rests a line, at a tick count, or refuses and changes nothing. The other lines are untouched.
@@ -56,22 +55,19 @@ impl Standings {
         ensures answer { result ≡ answer (standing_at self.old number) turn }
         ensures table { self.new.at ≡ turned_at self.old number turn count }
     {
-        let number = number as usize;
-        if number < 1 || number > 128 {
-            return Err(Refusal::NoSuchLine);
-        }
-        match (&mut self.at[number - 1], turn) {
-            (Standing::Absent, _) => Err(Refusal::NoSuchLine),
-            (Standing::Armed { .. }, Turn::Arm) => Err(Refusal::AlreadyArmed),
-            (s @ Standing::Resting, Turn::Arm) => {
+        let place = place(number).ok_or(Refusal::NoSuchLine)?;
+        match (&mut self.at[place], turn) {
+            (None, _) => Err(Refusal::NoSuchLine),
+            (Some(Standing::Armed { .. }), Turn::Arm) => Err(Refusal::AlreadyArmed),
+            (Some(s @ Standing::Resting), Turn::Arm) => {
                 *s = Standing::Armed { mark: count };
                 Ok(())
             }
-            (s @ Standing::Armed { .. }, Turn::Rest) => {
+            (Some(s @ Standing::Armed { .. }), Turn::Rest) => {
                 *s = Standing::Resting;
                 Ok(())
             }
-            (Standing::Resting, Turn::Rest) => Err(Refusal::AlreadyResting),
+            (Some(Standing::Resting), Turn::Rest) => Err(Refusal::AlreadyResting),
         }
     }
 }

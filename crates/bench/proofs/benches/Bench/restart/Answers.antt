@@ -1,12 +1,32 @@
-use Rattle.std.proofs.Common.{refl}
-use Rattle.bench.specs.Keeping.{takes}
-use Rattle.bench.proofs.Kept.{cleared}
+use Rattle.std.proofs.Common.{refl, ap, ◌∙◌, ◌∷◌}
+use Rattle.std.proofs.Math.Logic.{∥∥₁_map}
+use Rattle.book.specs.Rows.{line_rows}
+use Rattle.history.specs.Calls.{clear, samples}
+use Rattle.bench.proofs.Kept.{fresh, cleared}
 use Rattle.bench.proofs.benches.Bench.restart.Goals as goal
+
+pub invariant_of-self : goal.invariant_of-self
+invariant_of-self g c = record {
+  lived = ∥∥₁_map c.args.self.now.lived (λ l.
+      let b = l.0 in
+      let h = l.1 in
+      let sees = c.clear.ensures b (samples h) l.2.sees in
+      let rows = c.lines.ensures.rows ∙ ap line_rows sees.finder.of in (
+        b,
+        clear ∷ h,
+        cleared g.C.Cell.hears g.F.Finder.book g.F.Finder.stands c.clear.new.finder _ b h
+            (fresh g.C.Cell.hears g.F.Finder.book g.F.Finder.stands c.clear.new.finder _ b sees l.2.lines refl c.lines.result.now rows c.new-self.ensures c.none-self.ensures),
+      ));
+}
 
 pub returns : goal.returns
 returns g c = record {
   answer = λ b h r. refl;
   history = λ b h r. record {
-    lives = cleared g.C.Cell.hears g.F.Finder.book g.F.Finder.stands (takes g.F.Finder.reads) c.begin-desk.new.finder c.begin-desk.result (g.F.Finder.book c.args.self.now.finder) b h r.lives.sees.finder.of c.begin-desk.ensures;
+    lives =
+        let sees = c.clear.ensures b (samples h) r.lives.sees in
+        let rows = c.lines.ensures.rows ∙ ap line_rows sees.finder.of in
+        cleared g.C.Cell.hears g.F.Finder.book g.F.Finder.stands c.clear.new.finder _ b h
+        (fresh g.C.Cell.hears g.F.Finder.book g.F.Finder.stands c.clear.new.finder _ b sees r.lives.lines refl c.lines.result.now rows c.new-self.ensures c.none-self.ensures);
   };
 }

@@ -1,8 +1,9 @@
-use Rattle.std.proofs.Common.{◌≡◌, ℕ, ◌+◌, ◌<◌, cond, map, length, get_or, take}
-use Rattle.book.specs.Book.{among}
-use Rattle.standings.specs.declared.turns.Standing.TheVariants.{Absent, Armed}
+use Rattle.std.proofs.Common.{◌≡◌, ℕ, length, take}
+use Rattle.standings.specs.Turning.{placed, first_standing}
 use Rattle.standings.proofs.tables.turning.all_armed.Given as goal
 
 abbrev pub invariant-loop-line : goal.invariant-loop-line
-invariant-loop-line l = (length l.at ≡ 128)
-    × ((j : ℕ) → j < 128 → get_or l.at j Absent ≡ cond (among (j + 1) (map (λ x. x.number) (take l.line-index l.lines))) (Armed 0) Absent)
+invariant-loop-line l = record {
+  whole : length l.at ≡ 128;
+  standings : (n : ℕ) → placed l.at n ≡ first_standing (take l.line-index l.lines) n;
+}

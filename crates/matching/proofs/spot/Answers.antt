@@ -2,9 +2,9 @@ use Rattle.std.proofs.Common.{Bool, List, ◌∷◌, ap, ◌∙◌}
 use Rattle.book.specs.Book.{Book}
 use Rattle.finders.specs.Runs.{taken, ends}
 use Rattle.finders.proofs.LatestRuns.{taken_newest}
-use Rattle.bench.specs.Seen.{Heard, Has}
-use Rattle.bench.proofs.Spots.{spots, past_book}
-use Rattle.bench.proofs.matching.spot.Goals as goal
+use Rattle.matching.specs.Seen.{Heard, Has}
+use Rattle.matching.proofs.Spots.{spots, past_book}
+use Rattle.matching.proofs.spot.Goals as goal
 
 pub returns : goal.returns
 returns g c =

@@ -1,6 +1,6 @@
 use Rattle.std.proofs.Common.{rules}
 use Rattle.matching.proofs.Matched.{ring_later, lines_occur}
-use Rattle.matching.proofs.matchers.Matcher.take.Goals as goal
+use Rattle.matching.proofs.take.Goals as goal
 
 pub returns : goal.returns
 returns g c =

@@ -1,6 +1,6 @@
 use Rattle.std.proofs.Common.{rules}
 use Rattle.matching.proofs.Matched.{ring_cleared}
-use Rattle.matching.proofs.matchers.Matcher.clear.Goals as goal
+use Rattle.matching.proofs.clear.Goals as goal
 
 pub returns : goal.returns
 returns g c b newest r = record {
