@@ -1,15 +1,18 @@
 -- Commands in turn, one more at a time.
-use Rattle.std.proofs.Common.{◌≡◌, ℕ, ◌+◌, ◌<◌, Bool, List, [], ◌∷◌, ◌++◌, map, length, get_or, take, drop, set, Option, Result, sym, refl, ap, ◌∙◌, subst, arith}
+use Rattle.std.proofs.Common.{◌≡◌, ℕ, ◌+◌, ◌<◌, Bool, List, [], ◌∷◌, ◌++◌, map, length, get_or, take, drop, set, Result, sym, refl, ap, ◌∙◌, subst, arith}
 use Rattle.std.proofs.lemmas.List.{map_push, take_more, take_more_set, drop-set-lt, drop-drop}
 use Rattle.refusals.specs.declared.Refusal.{Refusal}
 use Rattle.book.specs.Book.{Book}
+use Rattle.finders.specs.declared.finding.Finder.{Ghosts}
 use Rattle.history.specs.Calls.{History}
 use Rattle.bench.specs.declared.benches.Bench.{Bench}
 use Rattle.bench.specs.Keeping.{takes}
 use Rattle.parting.specs.declared.commands.Command.{Command}
 use Rattle.parting.specs.declared.commands.Answer.{Answer}
 use Rattle.parting.specs.Replies.{said, reply, then, replies, then_all}
-use Rattle.parting.specs.Runs.{Answered, Ran}
+use Rattle.parting.specs.Logged.{Entry}
+use Rattle.parting.specs.declared.commands.Trio.{Trio}
+use Rattle.parting.specs.Runs.{Answered, Ran, AllAnswered, AllRan}
 
 module _ {C S : Type 0} (hears : C → S → Bool) (takes : S → Bool) (b : Book C) where
   then_push : (h : History S) (cs : List (Command S)) (c : Command S) → then_all hears takes b h (cs ++ c ∷ []) ≡ then hears takes b (then_all hears takes b h cs) c
@@ -20,32 +23,41 @@ module _ {C S : Type 0} (hears : C → S → Bool) (takes : S → Bool) (b : Boo
   replies_push h [] c = refl
   replies_push h (x ∷ cs) c = ap (λ rs. reply hears takes b h x ∷ rs) (replies_push (then hears takes b h x) cs c)
 
-module _ {C S F Y : Type 0} (hears : C → S → Bool) (reads : S → Option Y) (book : F → Book C) (stands : F → ℕ → Bool) where
-  pub ran_none : (bench : Bench C F) → Ran hears reads book stands bench [] [] bench
-  ran_none bench = record { replied = λ b h r. refl; history = λ b h r. r }
-
-  pub ran_more : (bench now later : Bench C F) (cs : List (Command S)) (rs : List (Result Answer Refusal)) (c : Command S) (r : Result Answer Refusal)
-      → Ran hears reads book stands bench cs rs now → Answered hears reads book stands now c r later
-      → Ran hears reads book stands bench (cs ++ c ∷ []) (rs ++ r ∷ []) later
+module _ {C S F Y Z : Type 0} (hears : C → S → Bool) (finder : Ghosts F C Y S Z) where
+  ran_more : (bench now later : Bench C F) (cs : List (Command S)) (rs : List (Result Answer Refusal)) (c : Command S) (r : Result Answer Refusal)
+      → Ran hears finder bench cs rs now → Answered hears finder now c r later
+      → Ran hears finder bench (cs ++ c ∷ []) (rs ++ r ∷ []) later
   ran_more bench now later cs rs c r ran one = record {
     replied = λ b h x.
         map_push said rs r
-        ∙ (λ i. ran.replied b h x i ++ one.replied b (then_all hears (takes reads) b h cs) (ran.history b h x) i ∷ [])
-        ∙ sym (replies_push hears (takes reads) b h cs c);
-    history = λ b h x. rw then_push (one.history b (then_all hears (takes reads) b h cs) (ran.history b h x));
+        ∙ (λ i. ran.replied b h x i ++ one.replied b (then_all hears (takes finder.reads) b h cs) (ran.history b h x) i ∷ [])
+        ∙ sym (replies_push hears (takes finder.reads) b h cs c);
+    history = λ b h x. rw then_push (one.history b (then_all hears (takes finder.reads) b h cs) (ran.history b h x));
   }
 
   -- one step of a loop over commands and a log
-  pub ran_step : {L : Type 0} (answer : L → Result Answer Refusal) (bench now later : Bench C F) (cs : List (Command S)) (log : List L) (i : ℕ) (c : Command S) (entry : L)
+  ran_step : {L : Type 0} (answer : L → Result Answer Refusal) (bench now later : Bench C F) (cs : List (Command S)) (log : List L) (i : ℕ) (c : Command S) (entry : L)
       → i < length cs → i < length log → c ≡ get_or cs i c
-      → Ran hears reads book stands bench (take i cs) (map answer (take i log)) now → Answered hears reads book stands now c (answer entry) later
-      → Ran hears reads book stands bench (take (i + 1) cs) (map answer (take (i + 1) (set log i entry))) later
+      → Ran hears finder bench (take i cs) (map answer (take i log)) now → Answered hears finder now c (answer entry) later
+      → Ran hears finder bench (take (i + 1) cs) (map answer (take (i + 1) (set log i entry))) later
   ran_step answer bench now later cs log i c entry inside room is ran one =
       let commands : take (i + 1) cs ≡ take i cs ++ c ∷ [] = take_more cs i c inside ∙ ap (λ x. take i cs ++ x ∷ []) (sym is) in
       let entries : map answer (take (i + 1) (set log i entry)) ≡ map answer (take i log) ++ answer entry ∷ [] = ap (map answer) (take_more_set log i entry room) ∙ map_push answer (take i log) entry in
-      subst (λ x. Ran hears reads book stands bench x (map answer (take (i + 1) (set log i entry))) later) (sym commands)
-      (subst (λ x. Ran hears reads book stands bench (take i cs ++ c ∷ []) x later) (sym entries)
+      subst (λ x. Ran hears finder bench x (map answer (take (i + 1) (set log i entry))) later) (sym commands)
+      (subst (λ x. Ran hears finder bench (take i cs ++ c ∷ []) x later) (sym entries)
       (ran_more bench now later (take i cs) (map answer (take i log)) c (answer entry) ran one))
+
+module _ {C S Z W X Y W' X' Y' : Type 0} (hears : C → S → Bool) (w : Ghosts W C W' S Z) (x : Ghosts X C X' S Z) (y : Ghosts Y C Y' S Z) where
+  -- one step of a loop over three benches
+  pub all_ran_step : (benches now later : Trio (Bench C W) (Bench C X) (Bench C Y)) (cs : List (Command S)) (log : List Entry) (i : ℕ) (c : Command S) (entry : Entry)
+      → i < length cs → i < length log → c ≡ get_or cs i c
+      → AllRan hears w x y benches (take i cs) (take i log) now → AllAnswered hears w x y now c entry later
+      → AllRan hears w x y benches (take (i + 1) cs) (take (i + 1) (set log i entry)) later
+  all_ran_step benches now later cs log i c entry inside room is ran one = record {
+    whole = ran_step hears w (λ t. t.whole) benches.whole now.whole later.whole cs log i c entry inside room is ran.whole one.whole;
+    first = ran_step hears x (λ t. t.first) benches.first now.first later.first cs log i c entry inside room is ran.first one.first;
+    second = ran_step hears y (λ t. t.second) benches.second now.second later.second cs log i c entry inside room is ran.second one.second;
+  }
 
 -- what lies beyond a step
 pub beyond : {L : Type 0} (log start : List L) (i : ℕ) (entry : L) → drop i log ≡ drop i start → drop (i + 1) (set log i entry) ≡ drop (i + 1) start
