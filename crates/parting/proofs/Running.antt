@@ -1,6 +1,6 @@
 -- Commands in turn, one more at a time.
-use Rattle.std.proofs.Common.{◌≡◌, ℕ, ◌+◌, ◌<◌, Bool, List, [], ◌∷◌, ◌++◌, map, length, get_or, take, drop, set, Result, sym, refl, ap, ◌∙◌, subst, arith}
-use Rattle.std.proofs.lemmas.List.{map_push, take_more, take_more_set, drop-set-lt, drop-drop}
+use Rattle.std.proofs.Common.{◌≡◌, ℕ, ◌+◌, ◌<◌, Bool, List, [], ◌∷◌, ◌++◌, map, length, get_or, take, set, Result, sym, refl, ap, ◌∙◌, subst}
+use Rattle.std.proofs.lemmas.List.{map_push, take_more, take_more_set}
 use Rattle.refusals.specs.declared.Refusal.{Refusal}
 use Rattle.book.specs.Book.{Book}
 use Rattle.finders.specs.declared.finding.Finder.{Ghosts}
@@ -58,7 +58,3 @@ module _ {C S Z W X Y W' X' Y' : Type 0} (hears : C → S → Bool) (w : Ghosts 
     first = ran_step hears x (λ t. t.first) benches.first now.first later.first cs log i c entry inside room is ran.first one.first;
     second = ran_step hears y (λ t. t.second) benches.second now.second later.second cs log i c entry inside room is ran.second one.second;
   }
-
--- what lies beyond a step
-pub beyond : {L : Type 0} (log start : List L) (i : ℕ) (entry : L) → drop i log ≡ drop i start → drop (i + 1) (set log i entry) ≡ drop (i + 1) start
-beyond log start i entry e = drop-set-lt (i + 1) log i entry (omega arith) ∙ sym (drop-drop 1 i log) ∙ ap (drop 1) e ∙ drop-drop 1 i start

@@ -44,17 +44,25 @@ impl<C: Cell, W: Finder<C>, X: Finder<C>, Y: Finder<C>> Trio<
         }
     }
 
-    // Gives the three benches every command in turn, and writes what they answer into the log, as far as commands and
-    // log reach; answers how many commands were given.
+    // Gives the three benches every command in turn, and writes what they answer into a log of as many places.
+    fn answer_all(&mut self, commands: &[Command<C::Sample>], log: &mut [Trio])
+        requires { length commands.now ≡ length log.old }
+        ensures { AllRan C.Cell.hears W.Finder X.Finder Y.Finder self.old commands.now log.new self.new }
+    {
+        // An index, since the log is written where the command stands.
+        for (i, command) in commands.iter().enumerate() {
+            log[i] = self.answer(*command);
+        }
+    }
+
+    // The same as far as commands and log reach; answers how many commands were given.
     fn run(&mut self, commands: &[Command<C::Sample>], log: &mut [Trio]) -> usize
         ensures steps { result ≡ min (length commands.now) (length log.old) }
         ensures ran { AllRan C.Cell.hears W.Finder X.Finder Y.Finder self.old (take result commands.now) (take result log.new) self.new }
         ensures beyond { drop result log.new ≡ drop result log.old }
     {
         let steps = commands.len().min(log.len());
-        for (i, command) in commands[..steps].iter().enumerate() {
-            log[i] = self.answer(*command);
-        }
+        self.answer_all(&commands[..steps], &mut log[..steps]);
         steps
     }
 }
