@@ -2,37 +2,41 @@
 use inputs::split_row;
 use parting::commands::Command;
 use std::alloc::{AllocError, Global};
+use std::fmt;
 
-/// How a row was read: as a command, or as none, with the column at which it goes wrong, counted from 1.
-#[derive(Clone, Copy)]
-pub(crate) enum Reading {
-    Proper,
-    Wrong { column: usize },
+/// A row is no command: the column at which it goes wrong, counted from 1.
+#[derive(Clone, Copy, PartialEq, Eq, Debug)]
+pub(crate) struct NoCommand {
+    column: usize,
 }
 
-/// The rows of an input: how each was read, and the commands of the proper ones.
-#[derive(Drop)]
-pub(crate) struct Rows {
-    pub(crate) readings: Vec<Reading>,
-    pub(crate) commands: Vec<Command<u8>>,
+impl NoCommand {
+    // A row that goes wrong behind so many bytes.
+    fn behind(bytes: usize) -> NoCommand {
+        NoCommand {
+            column: bytes.saturating_add(1),
+        }
+    }
 }
 
-// The column behind so many bytes.
-fn column_behind(bytes: usize) -> usize {
-    bytes.saturating_add(1)
+impl fmt::Display for NoCommand {
+    fn fmt<W: fmt::Write>(&self, f: &mut fmt::Formatter<W>) -> fmt::Result {
+        let column = self.column;
+        write!(f, "no command, column {column}")
+    }
 }
 
 // The number that stands behind a word of so many bytes: digits without leading zeros. A number too large for a line
-// reads as the largest, which is no line's either. Else the column at which it goes wrong.
-fn read_number(word: usize, digits: &[u8]) -> Result<u16, usize> {
+// reads as the largest, which is no line's either.
+fn read_number(word: usize, digits: &[u8]) -> Result<u16, NoCommand> {
     if digits.is_empty() {
-        return Err(column_behind(word));
+        return Err(NoCommand::behind(word));
     }
     let mut number: u16 = 0;
     for (i, byte) in digits.iter().enumerate() {
         let leading = i == 1 && number == 0;
         if leading || !byte.is_ascii_digit() {
-            return Err(column_behind(word.saturating_add(i)));
+            return Err(NoCommand::behind(word.saturating_add(i)));
         }
         number = number
             .saturating_mul(10)
@@ -41,17 +45,17 @@ fn read_number(word: usize, digits: &[u8]) -> Result<u16, usize> {
     Ok(number)
 }
 
-// The sample that stands behind a word of so many bytes, or the column at which it goes wrong.
-fn read_sample(word: usize, bytes: &[u8]) -> Result<u8, usize> {
+// The sample that stands behind a word of so many bytes.
+fn read_sample(word: usize, bytes: &[u8]) -> Result<u8, NoCommand> {
     match bytes {
         [sample] => Ok(*sample),
-        [] => Err(column_behind(word)),
-        [_, ..] => Err(column_behind(word.saturating_add(1))),
+        [] => Err(NoCommand::behind(word)),
+        [_, ..] => Err(NoCommand::behind(word.saturating_add(1))),
     }
 }
 
-// The command of a row, or the column at which it goes wrong.
-fn read_command(row: &[u8]) -> Result<Command<u8>, usize> {
+// The command of a row.
+fn read_command(row: &[u8]) -> Result<Command<u8>, NoCommand> {
     if let Some(bytes) = row.strip_prefix(b"feed ") {
         return Ok(Command::Feed(read_sample(5, bytes)?));
     }
@@ -67,31 +71,19 @@ fn read_command(row: &[u8]) -> Result<Command<u8>, usize> {
     if row == b"clear".as_slice() {
         return Ok(Command::Clear);
     }
-    Err(1)
-}
-
-// Notes how a row reads.
-fn note(rows: &mut Rows, row: &[u8]) -> Result<(), AllocError> {
-    match read_command(row) {
-        Ok(command) => {
-            rows.commands.push(command)?;
-            rows.readings.push(Reading::Proper)?;
-        }
-        Err(column) => rows.readings.push(Reading::Wrong { column })?,
-    }
-    Ok(())
+    Err(NoCommand::behind(0))
 }
 
 /// Reads an input row after row.
-pub(crate) fn read_rows(heap: Global, input: &[u8]) -> Result<Rows, AllocError> {
-    let mut rows = Rows {
-        readings: Vec::new(heap),
-        commands: Vec::new(heap),
-    };
+pub(crate) fn read_rows(
+    alloc: Global,
+    input: &[u8],
+) -> Result<Vec<Result<Command<u8>, NoCommand>>, AllocError> {
+    let mut rows = Vec::new(alloc);
     let mut rest = input;
     while !rest.is_empty() {
         let (row, behind) = split_row(rest);
-        note(&mut rows, row)?;
+        rows.push(read_command(row))?;
         rest = behind;
     }
     Ok(rows)

@@ -1,6 +1,6 @@
 -- Commands in turn, one more at a time.
-use Rattle.std.proofs.Common.{◌≡◌, ℕ, ◌+◌, ◌<◌, Bool, List, [], ◌∷◌, ◌++◌, map, length, get_or, take, drop, set, Option, Result, sym, refl, ap, ◌∙◌, subst, arith}
-use Rattle.std.proofs.lemmas.List.{map_push, take_more, take_more_set, drop-set-lt, drop-drop}
+use Rattle.std.proofs.Common.{◌≡◌, ℕ, ◌+◌, ◌<◌, Bool, List, [], ◌∷◌, ◌++◌, map, length, get_or, take, set, Result, sym, refl, ap, ◌∙◌, subst}
+use Rattle.std.proofs.lemmas.List.{map_push, take_more, take_more_set}
 use Rattle.refusals.specs.declared.Refusal.{Refusal}
 use Rattle.cells.specs.declared.kinds.Cell as Cell
 use Rattle.book.specs.Book.{Book}
@@ -11,7 +11,8 @@ use Rattle.bench.specs.Keeping.{takes}
 use Rattle.parting.specs.declared.commands.Command.{Command}
 use Rattle.parting.specs.declared.commands.Answer.{Answer}
 use Rattle.parting.specs.Replies.{said, reply, then, replies, then_all}
-use Rattle.parting.specs.Runs.{Answered, Ran}
+use Rattle.parting.specs.Logged.{Entry}
+use Rattle.parting.specs.Runs.{Answered, Ran, Three, AllAnswered, AllRan}
 
 module _ {C S : Type 0} (hears : C → S → Bool) (takes : S → Bool) (b : Book C) where
   then_push : (h : History S) (cs : List (Command S)) (c : Command S) → then_all hears takes b h (cs ++ c ∷ []) ≡ then hears takes b (then_all hears takes b h cs) c
@@ -23,10 +24,7 @@ module _ {C S : Type 0} (hears : C → S → Bool) (takes : S → Bool) (b : Boo
   replies_push h (x ∷ cs) c = ap (λ rs. reply hears takes b h x ∷ rs) (replies_push (then hears takes b h x) cs c)
 
 module _ {C F S X Y : Type 0} (cell : Cell.Ghosts C S X) (finder : Finder.Ghosts F C Y S X) where
-  pub ran_none : (bench : Bench C F S X Y cell finder) → Ran cell finder bench [] [] bench
-  ran_none bench = record { replied = λ b h r. refl; history = λ b h r. r }
-
-  pub ran_more : (bench now later : Bench C F S X Y cell finder) (cs : List (Command S)) (rs : List (Result Answer Refusal)) (c : Command S) (r : Result Answer Refusal)
+  ran_more : (bench now later : Bench C F S X Y cell finder) (cs : List (Command S)) (rs : List (Result Answer Refusal)) (c : Command S) (r : Result Answer Refusal)
       → Ran cell finder bench cs rs now → Answered cell finder now c r later
       → Ran cell finder bench (cs ++ c ∷ []) (rs ++ r ∷ []) later
   ran_more bench now later cs rs c r ran one = record {
@@ -38,7 +36,7 @@ module _ {C F S X Y : Type 0} (cell : Cell.Ghosts C S X) (finder : Finder.Ghosts
   }
 
   -- one step of a loop over commands and a log
-  pub ran_step : {L : Type 0} (answer : L → Result Answer Refusal) (bench now later : Bench C F S X Y cell finder) (cs : List (Command S)) (log : List L) (i : ℕ) (c : Command S) (entry : L)
+  ran_step : {L : Type 0} (answer : L → Result Answer Refusal) (bench now later : Bench C F S X Y cell finder) (cs : List (Command S)) (log : List L) (i : ℕ) (c : Command S) (entry : L)
       → i < length cs → i < length log → c ≡ get_or cs i c
       → Ran cell finder bench (take i cs) (map answer (take i log)) now → Answered cell finder now c (answer entry) later
       → Ran cell finder bench (take (i + 1) cs) (map answer (take (i + 1) (set log i entry))) later
@@ -49,6 +47,14 @@ module _ {C F S X Y : Type 0} (cell : Cell.Ghosts C S X) (finder : Finder.Ghosts
       (subst (λ x. Ran cell finder bench (take i cs ++ c ∷ []) x later) (sym entries)
       (ran_more bench now later (take i cs) (map answer (take i log)) c (answer entry) ran one))
 
--- what lies beyond a step
-pub beyond : {L : Type 0} (log start : List L) (i : ℕ) (entry : L) → drop i log ≡ drop i start → drop (i + 1) (set log i entry) ≡ drop (i + 1) start
-beyond log start i entry e = drop-set-lt (i + 1) log i entry (omega arith) ∙ sym (drop-drop 1 i log) ∙ ap (drop 1) e ∙ drop-drop 1 i start
+module _ {C S Z W X Y W' X' Y' : Type 0} (cell : Cell.Ghosts C S Z) (w : Finder.Ghosts W C W' S Z) (x : Finder.Ghosts X C X' S Z) (y : Finder.Ghosts Y C Y' S Z) where
+  -- one step of a loop over three benches
+  pub all_ran_step : (benches now later : Three cell w x y) (cs : List (Command S)) (log : List Entry) (i : ℕ) (c : Command S) (entry : Entry)
+      → i < length cs → i < length log → c ≡ get_or cs i c
+      → AllRan cell w x y benches (take i cs) (take i log) now → AllAnswered cell w x y now c entry later
+      → AllRan cell w x y benches (take (i + 1) cs) (take (i + 1) (set log i entry)) later
+  all_ran_step benches now later cs log i c entry inside room is ran one = record {
+    whole = ran_step cell w (λ t. t.whole) benches.whole now.whole later.whole cs log i c entry inside room is ran.whole one.whole;
+    first = ran_step cell x (λ t. t.first) benches.first now.first later.first cs log i c entry inside room is ran.first one.first;
+    second = ran_step cell y (λ t. t.second) benches.second now.second later.second cs log i c entry inside room is ran.second one.second;
+  }

@@ -1,5 +1,7 @@
 -- The parting law: the whole's replies are shared out between its parts, at every step.
 use Rattle.std.proofs.Common.{◌≡◌, ℕ, ◌+◌, ◌-◌, Bool, true, false, cond, ◌&&◌, ◌||◌, eqb, List, [], ◌∷◌, ◌++◌, map, ℤ, pos, ◌+ℤ◌, is_ok, Some, None, Ok, Err, Result, sym, refl, ap, ◌∙◌, subst, ⊎_elim, append_assoc, arith}
+use Rattle.std.proofs.Math.Bool.{or-false}
+use Rattle.std.specs.List.{list_any}
 use Rattle.std.proofs.lemmas.Bool.{cases_Bool, both_ways, or_left, or_right, or_from, and_left, and_right}
 use Rattle.refusals.specs.declared.Refusal.{Refusal}
 use Rattle.refusals.specs.declared.Refusal.TheVariants.{NoSuchLine}
@@ -20,7 +22,7 @@ use Rattle.parting.specs.declared.commands.Command.TheVariants.{Feed, Arm, Rest,
 use Rattle.parting.specs.Parted.{Parted, TickShared, FeedShared, OwnPart, Shared, AllShared}
 use Rattle.parting.specs.Replies.{standing, Reply, fed, turned, reply, then, replies}
 use Rattle.parting.proofs.Follows.{Follows, follows_none, feed_both, same_feed, same_arm, same_rest, no_arm, no_rest, follows_then}
-use Rattle.parting.proofs.Sums.{any, sumℤ, any_parted, sum_parted, has_any, apart}
+use Rattle.parting.proofs.Sums.{sumℤ, any_parted, sum_parted, has_any, apart}
 
 -- reports and points line by line
 module _ {C S : Type 0} (hears : C → S → Bool) (h : History S) (i : ℕ) where
@@ -28,7 +30,7 @@ module _ {C S : Type 0} (hears : C → S → Bool) (h : History S) (i : ℕ) whe
   abbrev worth : Line C → ℤ
   worth l = elim (reported hears h l (i - l.lag)) [ true ↦ l.points | false ↦ pos 0 ]
 
-  reported_any : (n : ℕ) (b : Book C) → among n (numbers_reported hears b h i) ≡ any (λ l. reported hears h l i && eqb l.number n) b
+  reported_any : (n : ℕ) (b : Book C) → among n (numbers_reported hears b h i) ≡ list_any (λ l. reported hears h l i && eqb l.number n) b
   reported_any n [] = refl
   reported_any n (l ∷ b) = among_reported hears l b h i n ∙ ap (λ t. (reported hears h l i && eqb l.number n) || t) (reported_any n b)
 
@@ -66,10 +68,6 @@ feeds (Err x) t u w k = record {
   refused = λ e q. (q, q);
 }
 
-or_false : (a : Bool) → a ≡ (a || false)
-or_false true = refl
-or_false false = refl
-
 refuse_alike : (v : Result (Unit {0}) Refusal) (t u w : Told) → is_ok (picked v t) ≡ (is_ok (picked v u) || is_ok (picked v w))
 refuse_alike (Ok x) t u w = refl
 refuse_alike (Err x) t u w = refl
@@ -103,7 +101,7 @@ module _ {C S : Type 0} (hears : C → S → Bool) (whole one two : Book C) (par
   together : (n : ℕ) (w a b : Reply) → OwnPart one two n (Err NoSuchLine) w a b → is_ok w ≡ (is_ok a || is_ok b)
   together n w a b o =
       ⊎_elim
-      (λ y. let p = o.in_first y in ap is_ok p.0 ∙ or_false (is_ok a) ∙ ap (λ x. is_ok a || is_ok x) (sym p.1))
+      (λ y. let p = o.in_first y in ap is_ok p.0 ∙ sym (or-false (is_ok a)) ∙ ap (λ x. is_ok a || is_ok x) (sym p.1))
       (λ x.
       ⊎_elim
       (λ y. let p = o.in_second y in ap is_ok p.0 ∙ ap (λ x. is_ok x || is_ok b) (sym p.1))

@@ -1,18 +1,15 @@
 -- Tests and sums over a book and its parts.
 use Rattle.std.proofs.Common.{◌≡◌, ℕ, ◌+◌, ◌≤◌, Bool, true, false, cond, not, ◌||◌, eqb, ltb, List, [], ◌∷◌, ◌++◌, map, ℤ, pos, ◌+ℤ◌, sum_by, count_by, sym, refl, ap, ◌∙◌, ⊎_elim, arith}
 use borrow.Author.Differences.{up, down, sum_is_lem}
+use Rattle.std.specs.List.{list_any}
 use Rattle.std.specs.List.Sorted.{IsPermutation}
+use Rattle.std.proofs.lemmas.List.Folds.{list_any-append}
 use Rattle.std.proofs.lemmas.Int.{ints}
-use Rattle.std.proofs.lemmas.List.Sorted.{sum_by-IsPermutation}
+use Rattle.std.proofs.lemmas.List.Sorted.{sum_by-IsPermutation, list_any-IsPermutation}
 use Rattle.std.proofs.lemmas.List.Sums.{sum_by-cons, sum_by-append}
 use Rattle.std.proofs.lemmas.Bool.{and_parts, not-true, eqb-true, lt-ltb, ltb-true, ltb-false, cases_Bool}
 use Rattle.book.specs.Book.{Line, Book, has_number}
 use Rattle.book.specs.Layout.{distinct}
-
--- whether one of some elements passes a test
-abbrev pub any : {X : Type 0} → (X → Bool) → List X → Bool
-any p [] = false
-any p (x ∷ xs) = p x || any p xs
 
 -- the sum of what a function gives of some elements
 abbrev pub sumℤ : {X : Type 0} → (X → ℤ) → List X → ℤ
@@ -24,26 +21,18 @@ abbrev one : Bool → ℕ
 one t = cond t 1 0
 
 module _ {X : Type 0} where
-  any_counted : (p : X → Bool) (xs : List X) → any p xs ≡ ltb 0 (count_by p xs)
+  any_counted : (p : X → Bool) (xs : List X) → list_any p xs ≡ ltb 0 (count_by p xs)
   any_counted p [] = refl
   any_counted p (x ∷ xs) =
       let e = sum_by-cons (λ y. cond (p y) 1 0) x xs in
       ⊎_elim
-      (λ yes. ap (λ t. t || any p xs) yes ∙ sym (lt-ltb 0 _ (let k : one (p x) ≡ 1 = ap one yes in omega (arith, e, k))))
-      (λ n. ap (λ t. t || any p xs) n ∙ any_counted p xs ∙ ap (ltb 0) (let k : one (p x) ≡ 0 = ap one n in let z : count_by p xs ≡ count_by p (x ∷ xs) = omega (arith, e, k) in z))
+      (λ yes. ap (λ t. t || list_any p xs) yes ∙ sym (lt-ltb 0 _ (let k : one (p x) ≡ 1 = ap one yes in omega (arith, e, k))))
+      (λ n. ap (λ t. t || list_any p xs) n ∙ any_counted p xs ∙ ap (ltb 0) (let k : one (p x) ≡ 0 = ap one n in let z : count_by p xs ≡ count_by p (x ∷ xs) = omega (arith, e, k) in z))
       (cases_Bool (p x))
 
-  any_append : (p : X → Bool) (xs ys : List X) → any p (xs ++ ys) ≡ (any p xs || any p ys)
-  any_append p [] ys = refl
-  any_append p (x ∷ xs) ys = ap (λ t. p x || t) (any_append p xs ys) ∙ either (p x)
-    where
-      either : (t : Bool) → (t || (any p xs || any p ys)) ≡ ((t || any p xs) || any p ys)
-      either true = refl
-      either false = refl
-
   -- an element of the whole passes exactly when one of either part does
-  pub any_parted : (p : X → Bool) (xs ys zs : List X) → IsPermutation (xs ++ ys) zs → any p zs ≡ (any p xs || any p ys)
-  any_parted p xs ys zs s = any_counted p zs ∙ ap (ltb 0) (sum_by-IsPermutation (λ y. cond (p y) 1 0) (xs ++ ys) zs s) ∙ sym (any_counted p (xs ++ ys)) ∙ any_append p xs ys
+  pub any_parted : (p : X → Bool) (xs ys zs : List X) → IsPermutation (xs ++ ys) zs → list_any p zs ≡ (list_any p xs || list_any p ys)
+  any_parted p xs ys zs s = sym (list_any-IsPermutation p (xs ++ ys) zs s) ∙ list_any-append p xs ys
 
   split : (f : X → ℤ) (xs : List X) → up (sumℤ f xs) + sum_by (λ x. down (f x)) xs ≡ down (sumℤ f xs) + sum_by (λ x. up (f x)) xs
   split f [] = refl
@@ -64,7 +53,7 @@ module _ {X : Type 0} where
       omega (arith, ints, d, u, a, b, c)
 
 module _ {C : Type 0} where
-  pub has_any : (n : ℕ) (b : Book C) → has_number n b ≡ any (λ l. eqb l.number n) b
+  pub has_any : (n : ℕ) (b : Book C) → has_number n b ≡ list_any (λ l. eqb l.number n) b
   has_any n [] = refl
   has_any n (l ∷ b) = ap (λ t. eqb l.number n || t) (has_any n b)
 

@@ -29,20 +29,22 @@ saying (answer.Tick t s p) = ticked (t, member s, p)
 saying answer.Done = done
 saying (answer.Standing o) = standing o
 
--- and one that may be a refusal
+-- a reply, by what is said where there is no refusal
+abbrev pub replied : {T : Type 0} → (T → Saying) → Result T Refusal → Reply
+replied says (Ok t) = Ok (says t)
+replied says (Err e) = Err e
+
+-- what an answer says that may be a refusal
 abbrev pub said : Result Answer Refusal → Reply
-said (Ok a) = Ok (saying a)
-said (Err e) = Err e
+said r = replied saying r
 
 -- what a feed replies
 abbrev pub fed : Result Told Refusal → Reply
-fed (Ok t) = Ok (ticked t)
-fed (Err e) = Err e
+fed r = replied ticked r
 
 -- what arm, rest and clear reply
 abbrev pub turned : Result (Unit {0}) Refusal → Reply
-turned (Ok u) = Ok done
-turned (Err e) = Err e
+turned r = replied (λ u. done) r
 
 module _ {C S : Type 0} (hears : C → S → Bool) (takes : S → Bool) (b : Book C) where
   -- the reply to a command after a history

@@ -1,5 +1,5 @@
--- What commands do to a bench, whatever it has been through.
-use Rattle.std.specs.Prelude.{◌≡◌, ℕ, Bool, List, map, Option, Result}
+-- What commands do to benches, whatever these have been through.
+use Rattle.std.specs.Prelude.{◌≡◌, List, map, Result}
 use Rattle.refusals.specs.declared.Refusal.{Refusal}
 use Rattle.cells.specs.declared.kinds.Cell as Cell
 use Rattle.book.specs.Book.{Book}
@@ -10,8 +10,11 @@ use Rattle.bench.specs.Keeping.{takes}
 use Rattle.bench.specs.Lived.{Represents}
 use Rattle.parting.specs.declared.commands.Command.{Command}
 use Rattle.parting.specs.declared.commands.Answer.{Answer}
+use Rattle.parting.specs.declared.commands.Trio.{Trio}
+use Rattle.parting.specs.Logged.{Entry}
 use Rattle.parting.specs.Replies.{said, reply, then, replies, then_all}
 
+-- over a kind of cell and a sort of finder, by what their traits say of them
 module _ {C F S X Y : Type 0} (cell : Cell.Ghosts C S X) (finder : Finder.Ghosts F C Y S X) where
   -- one command: the answer says the defined reply, and the bench has later been through the history after it
   pub record Answered (bench : Bench C F S X Y cell finder) (c : Command S) (r : Result Answer Refusal) (later : Bench C F S X Y cell finder) : Type 0 where
@@ -22,3 +25,21 @@ module _ {C F S X Y : Type 0} (cell : Cell.Ghosts C S X) (finder : Finder.Ghosts
   pub record Ran (bench : Bench C F S X Y cell finder) (cs : List (Command S)) (rs : List (Result Answer Refusal)) (later : Bench C F S X Y cell finder) : Type 0 where
     pub replied : (b : Book C) (h : History S) → Represents cell finder bench b h → map said rs ≡ replies cell.hears (takes finder.reads) b h cs
     pub history : (b : Book C) (h : History S) → Represents cell finder bench b h → Represents cell finder later b (then_all cell.hears (takes finder.reads) b h cs)
+
+-- over three sorts of finder
+module _ {C S Z W X Y W' X' Y' : Type 0} (cell : Cell.Ghosts C S Z) (of_whole : Finder.Ghosts W C W' S Z) (of_first : Finder.Ghosts X C X' S Z) (of_second : Finder.Ghosts Y C Y' S Z) where
+  -- a bench of each
+  abbrev pub Three : Type 0
+  Three = Trio (Bench C W S Z W' cell of_whole) (Bench C X S Z X' cell of_first) (Bench C Y S Z Y' cell of_second)
+
+  -- one command to each of three benches
+  pub record AllAnswered (benches : Three) (c : Command S) (answers : Entry) (later : Three) : Type 0 where
+    pub whole : Answered cell of_whole benches.whole c answers.whole later.whole
+    pub first : Answered cell of_first benches.first c answers.first later.first
+    pub second : Answered cell of_second benches.second c answers.second later.second
+
+  -- commands in turn to each of them
+  pub record AllRan (benches : Three) (cs : List (Command S)) (log : List Entry) (later : Three) : Type 0 where
+    pub whole : Ran cell of_whole benches.whole cs (map (λ t. t.whole) log) later.whole
+    pub first : Ran cell of_first benches.first cs (map (λ t. t.first) log) later.first
+    pub second : Ran cell of_second benches.second cs (map (λ t. t.second) log) later.second

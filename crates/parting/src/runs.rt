@@ -1,37 +1,16 @@
 // Three benches side by side.
-ghost use Rattle.std.specs.Prelude.{◌≡◌, ◌≤◌, min, [], map, length, take, drop};
-ghost use Rattle.bench.specs.Keeping.{takes, told};
+ghost use Rattle.std.specs.Prelude.{◌≡◌, min, [], length, take, drop};
+ghost use Rattle.bench.specs.Keeping.{takes};
 ghost use Rattle.parting.specs.Logged.{of_whole, of_first, of_second};
 ghost use Rattle.parting.specs.Parted.{Parted, TakeAlike, AllShared};
-ghost use Rattle.parting.specs.Replies.{said, fed, turned, replies};
-ghost use Rattle.parting.specs.Runs.{Answered, Ran};
+ghost use Rattle.parting.specs.Replies.{replies};
+ghost use Rattle.parting.specs.Runs.{Answered, AllAnswered, AllRan};
 
 use crate::commands::{Answer, Command, Trio};
 use bench::benches::Bench;
 use cells::kinds::Cell;
-use columns::numbers::Numbers;
 use finders::finding::Finder;
 use refusals::Refusal;
-
-// What a feed answered.
-fn tick_of(answer: Result<(u32, Numbers, i32), Refusal>) -> Result<Answer, Refusal>
-    ensures { said result ≡ fed (told answer) }
-{
-    match answer {
-        Ok((tick, reported, points)) => Ok(Answer::Tick(tick, reported, points)),
-        Err(refusal) => Err(refusal),
-    }
-}
-
-// What arm or rest answered.
-fn done_if(answer: Result<(), Refusal>) -> Result<Answer, Refusal>
-    ensures { said result ≡ turned answer }
-{
-    match answer {
-        Ok(()) => Ok(Answer::Done),
-        Err(refusal) => Err(refusal),
-    }
-}
 
 // Gives a bench a command.
 fn answer<C: Cell, F: Finder<C>>(
@@ -40,64 +19,52 @@ fn answer<C: Cell, F: Finder<C>>(
 ) -> Result<Answer, Refusal>
     ensures { Answered C.Cell F.Finder bench.old command result bench.new }
 {
-    match command {
-        Command::Feed(sample) => tick_of(bench.feed(sample)),
-        Command::Arm(number) => done_if(bench.arm(number)),
-        Command::Rest(number) => done_if(bench.rest(number)),
-        Command::Clear => {
-            bench.clear();
-            Ok(Answer::Done)
+    Ok(match command {
+        Command::Feed(sample) => bench.feed(sample)?.into(),
+        Command::Arm(number) => bench.arm(number)?.into(),
+        Command::Rest(number) => bench.rest(number)?.into(),
+        Command::Clear => bench.clear().into(),
+        Command::Standing(number) => bench.standing(number).into(),
+    })
+}
+
+impl<C: Cell, W: Finder<C>, X: Finder<C>, Y: Finder<C>> Trio<
+    Bench<C, W>,
+    Bench<C, X>,
+    Bench<C, Y>,
+> {
+    // Gives the three benches a command.
+    fn answer(&mut self, command: Command<C::Sample>) -> Trio
+        ensures { AllAnswered C.Cell W.Finder X.Finder Y.Finder self.old command result self.new }
+    {
+        Trio {
+            whole: answer::<C, W>(&mut self.whole, command),
+            first: answer::<C, X>(&mut self.first, command),
+            second: answer::<C, Y>(&mut self.second, command),
         }
-        Command::Standing(number) => Ok(Answer::Standing(bench.standing(number))),
     }
-}
 
-// Gives three benches so many commands in turn, and writes down what they answer.
-fn run_three<C: Cell, W: Finder<C>, X: Finder<C>, Y: Finder<C>>(
-    whole: &mut Bench<C, W>,
-    first: &mut Bench<C, X>,
-    second: &mut Bench<C, Y>,
-    commands: &[Command<C::Sample>],
-    steps: usize,
-    log: &mut [Trio],
-)
-    requires { (steps ≤ length commands.now) × (steps ≤ length log.old) }
-    ensures whole { Ran C.Cell W.Finder whole.old (take steps commands.now) (map (λ t. t.whole) (take steps log.new)) whole.new }
-    ensures first { Ran C.Cell X.Finder first.old (take steps commands.now) (map (λ t. t.first) (take steps log.new)) first.new }
-    ensures second { Ran C.Cell Y.Finder second.old (take steps commands.now) (map (λ t. t.second) (take steps log.new)) second.new }
-    ensures beyond { drop steps log.new ≡ drop steps log.old }
-{
-    for i in 0..steps {
-        let command = commands[i];
-        let trio = Trio {
-            whole: answer::<C, W>(whole, command),
-            first: answer::<C, X>(first, command),
-            second: answer::<C, Y>(second, command),
-        };
-        log[i] = trio;
+    // Gives the three benches every command in turn, and writes what they answer into a log of as many places.
+    fn answer_all(&mut self, commands: &[Command<C::Sample>], log: &mut [Trio])
+        requires { length commands.now ≡ length log.old }
+        ensures { AllRan C.Cell W.Finder X.Finder Y.Finder self.old commands.now log.new self.new }
+    {
+        // An index, since the log is written where the command stands.
+        for (i, command) in commands.iter().enumerate() {
+            log[i] = self.answer(*command);
+        }
     }
-}
 
-// Makes three benches, gives them so many commands in turn, and writes down what they answer.
-fn run_made<C: Cell, W: Finder<C> + Drop, X: Finder<C> + Drop, Y: Finder<C> + Drop>(
-    whole: W,
-    first: X,
-    second: Y,
-    commands: &[Command<C::Sample>],
-    steps: usize,
-    log: &mut [Trio],
-)
-    requires { (steps ≤ length commands.now) × (steps ≤ length log.old) }
-    ensures whole { of_whole (take steps log.new) ≡ replies C.Cell.hears (takes W.Finder.reads) (W.Finder.book whole) [] (take steps commands.now) }
-    ensures first { of_first (take steps log.new) ≡ replies C.Cell.hears (takes X.Finder.reads) (X.Finder.book first) [] (take steps commands.now) }
-    ensures second { of_second (take steps log.new) ≡ replies C.Cell.hears (takes Y.Finder.reads) (Y.Finder.book second) [] (take steps commands.now) }
-    ensures beyond { drop steps log.new ≡ drop steps log.old }
-    ensures parting { Parted (W.Finder.book whole) (X.Finder.book first) (Y.Finder.book second) → TakeAlike W.Finder.reads X.Finder.reads → TakeAlike W.Finder.reads Y.Finder.reads → AllShared (X.Finder.book first) (Y.Finder.book second) (take steps commands.now) (of_whole (take steps log.new)) (of_first (take steps log.new)) (of_second (take steps log.new)) }
-{
-    let mut all = Bench::new(whole);
-    let mut one = Bench::new(first);
-    let mut two = Bench::new(second);
-    run_three::<C, W, X, Y>(&mut all, &mut one, &mut two, commands, steps, log);
+    // The same as far as commands and log reach; answers how many commands were given.
+    fn run(&mut self, commands: &[Command<C::Sample>], log: &mut [Trio]) -> usize
+        ensures steps { result ≡ min (length commands.now) (length log.old) }
+        ensures ran { AllRan C.Cell W.Finder X.Finder Y.Finder self.old (take result commands.now) (take result log.new) self.new }
+        ensures beyond { drop result log.new ≡ drop result log.old }
+    {
+        let steps = commands.len().min(log.len());
+        self.answer_all(&commands[..steps], &mut log[..steps]);
+        steps
+    }
 }
 
 /// Makes a bench from each of three finders, gives every command to all three in turn, and writes what they answer into
@@ -119,7 +86,10 @@ pub fn run_parted<C: Cell, W: Finder<C> + Drop, X: Finder<C> + Drop, Y: Finder<C
     ensures beyond { drop result log.new ≡ drop result log.old }
     ensures parting { Parted (W.Finder.book whole) (X.Finder.book first) (Y.Finder.book second) → TakeAlike W.Finder.reads X.Finder.reads → TakeAlike W.Finder.reads Y.Finder.reads → AllShared (X.Finder.book first) (Y.Finder.book second) (take result commands.now) (of_whole (take result log.new)) (of_first (take result log.new)) (of_second (take result log.new)) }
 {
-    let steps = commands.len().min(log.len());
-    run_made::<C, W, X, Y>(whole, first, second, commands, steps, log);
-    steps
+    let mut benches = Trio {
+        whole: Bench::new(whole),
+        first: Bench::new(first),
+        second: Bench::new(second),
+    };
+    benches.run(commands, log)
 }

@@ -1,4 +1,5 @@
 // The worked example: three lines, and one that is refused.
+use arrayvec::ArrayVec;
 use book::entries::Entry;
 use book::open::OpenBook;
 use cells::letters::LetterCell;
@@ -54,12 +55,13 @@ pub(crate) const LINES: [Letters; 4] = [
 /// The worked example's trace.
 pub(crate) const TRACE: &[u8] = b"ABDDCABCC";
 
-/// Enters a line in letters. A byte that is no letter refuses it too.
+/// Enters a line of at most 16 letters. A byte that is no letter refuses it too.
 pub(crate) fn enter(book: &mut OpenBook<'_, LetterCell>, line: Letters) -> Result<(), Refusal> {
-    let mut cells = [LetterCell::new(b'A')?; 16];
-    let count = line.letters.len().min(16);
-    for i in 0..count {
-        cells[i] = LetterCell::new(line.letters[i])?;
+    let mut cells: ArrayVec<LetterCell, 16> = ArrayVec::new();
+    for letter in line.letters {
+        if cells.try_push(LetterCell::new(*letter)?).is_err() {
+            break;
+        }
     }
     book.enter(Entry {
         number: line.number,
@@ -67,6 +69,6 @@ pub(crate) fn enter(book: &mut OpenBook<'_, LetterCell>, line: Letters) -> Resul
         lag: line.lag,
         lengths: line.lengths,
         gaps: line.gaps,
-        cells: &cells[0..count],
+        cells: &cells,
     })
 }

@@ -25,12 +25,13 @@ pub(crate) fn watch(
     Ok(())
 }
 
+// The keywords that end at a tick.
 fn show_ended(rt: &impl Print, finder: &LetterAutomaton<'_>) -> io::Result<()> {
     for line in finder.lines() {
-        for k in 0..line.keywords {
-            let keyword = line.first as usize + k as usize;
-            if finder.ended(keyword) {
-                print!(rt; " {}.{}", line.number, k.saturating_add(1))?;
+        // Numbers, since a finder is asked by the number of a keyword.
+        for place in 0..line.keywords {
+            if finder.ended(line.first as usize + place as usize) {
+                print!(rt; " {}.{}", line.number, place.saturating_add(1))?;
             }
         }
     }

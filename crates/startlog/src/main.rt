@@ -6,20 +6,14 @@ mod example;
 mod finding;
 mod showing;
 
-use anyhow::anyhow;
 use automaton::letters::{LetterAutomaton, NUMBERS};
 use book::open::OpenBook;
 use cells::letters::LetterCell;
-use refusals::Refusal;
+use programs::PLACES;
+use std::io;
 
-/// The cells of the program's book.
-const PLACES: usize = 1023;
-
-fn run(rt: &impl Print) -> anyhow::Result<()> {
-    let Ok(blank) = LetterCell::new(b'A') else {
-        return Err(anyhow!("A is no letter"));
-    };
-    let mut memory = [blank; PLACES];
+fn run(rt: &impl Print) -> io::Result<()> {
+    let mut memory = [LetterCell::default(); PLACES];
     let mut book = OpenBook::new(&mut memory);
     for line in example::LINES {
         match example::enter(&mut book, line) {
@@ -31,10 +25,9 @@ fn run(rt: &impl Print) -> anyhow::Result<()> {
     showing::show(rt, &sealed)?;
     let mut numbers = [0u16; NUMBERS];
     let mut finder = LetterAutomaton::new(sealed, &mut numbers);
-    finding::watch(rt, &mut finder, example::TRACE)?;
-    Ok(())
+    finding::watch(rt, &mut finder, example::TRACE)
 }
 
-fn main(rt: HostRuntime) -> anyhow::Result<()> {
+fn main(rt: HostRuntime) -> io::Result<()> {
     run(&rt)
 }

@@ -1,13 +1,10 @@
 // Watches a trace, and writes the rows of its ticks.
-ghost use Rattle.std.specs.Prelude.{◌≡◌};
-ghost use Rattle.queue.specs.Answers.{first, rest};
-ghost use Rattle.tray.specs.Waiting.{reports};
-
 use bench::benches::Bench;
 use cells::letters::LetterCell;
 use columns::numbers::Numbers;
 use finders::finding::Finder;
-use printout::{ROOM, refusal_row, tick_row};
+use printout::{ROOM, tick_row};
+use programs::write_refusal;
 use refusals::Refusal;
 use std::io;
 use std::io::Write;
@@ -16,26 +13,10 @@ use tray::{Report, Tray};
 /// As many reports as a tick may have: one for each line of a book.
 const REPORTS: usize = 128;
 
-/// Writes the row of a refusal.
-pub(crate) fn write_refusal(
-    out: &mut impl Write,
-    refusal: Refusal,
-    row: usize,
-    column: usize,
-) -> io::Result<()> {
-    let mut bytes = [0; ROOM];
-    match refusal_row(refusal, row as u64, column as u64, &mut bytes) {
-        Some(length) => out.write_all(&bytes[0..length]),
-        None => Ok(()),
-    }
-}
-
 fn write_tick(out: &mut impl Write, tick: u32, points: i32, reported: Numbers) -> io::Result<()> {
     let mut bytes = [0; ROOM];
-    match tick_row(tick, points, reported, &mut bytes) {
-        Some(length) => out.write_all(&bytes[0..length]),
-        None => Ok(()),
-    }
+    let length = tick_row(tick, points, reported, &mut bytes).unwrap();
+    out.write_all(&bytes[..length])
 }
 
 // Puts the reports of a tick in the tray.
@@ -46,18 +27,10 @@ fn put_reports(tray: &mut Tray<'_>, tick: u32, reported: Numbers) -> Result<(), 
     Ok(())
 }
 
-// The oldest report of the tray, if there is one.
-fn next_report(tray: &mut Tray<'_>) -> Option<Report>
-    ensures oldest { result ≡ first (reports tray.old) }
-    ensures others { reports tray.new ≡ rest (reports tray.old) }
-{
-    tray.take()
-}
-
 // Takes the reports of the tray, up to absent: their numbers.
 fn take_reports(tray: &mut Tray<'_>) -> Numbers {
     let mut numbers = Numbers::none();
-    while let Some(report) = next_report(tray) {
+    while let Some(report) = tray.take() {
         numbers.insert(report.number);
     }
     numbers

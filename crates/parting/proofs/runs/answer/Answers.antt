@@ -1,13 +1,15 @@
-use Rattle.std.proofs.Common.{sym, ap, ◌∙◌, subst}
+use Rattle.std.proofs.Common.{◌≡◌, Ok, sym, ap, ◌∙◌, subst, rules}
+use Rattle.bench.specs.Keeping.{told}
 use Rattle.parting.specs.declared.commands.Command.{Command}
-use Rattle.parting.specs.Replies.{fed}
+use Rattle.parting.specs.Replies.{said, fed}
 use Rattle.parting.specs.Runs.{Answered}
 use Rattle.parting.proofs.runs.answer.Goals as goal
 
-pub returns-in-Feed : goal.returns-in-Feed
-returns-in-Feed g c =
-    subst (λ (x : Command g.row.C-Sample.Denot). Answered g.C.Cell g.F.Finder c.args.bench.now x c.tick_of.result c.feed.new.self) (sym c.in-Feed.is)
+pub returns-in_ok-feed-in-Feed : goal.returns-in_ok-feed-in-Feed
+returns-in_ok-feed-in-Feed g c =
+    let tick : said (Ok c.into.result) ≡ fed (told c.feed.result) = search rules in
+    subst (λ (x : Command g.row.C-Sample.Denot). Answered g.C.Cell g.F.Finder c.args.bench.now x (Ok c.into.result) c.feed.new.self) (sym c.in-Feed.is)
     (record {
-      replied = λ b h r. c.tick_of.ensures ∙ ap fed (c.feed.ensures.answer b h r);
+      replied = λ b h r. tick ∙ ap fed (c.feed.ensures.answer b h r);
       history = λ b h r. c.feed.ensures.history b h r;
     })

@@ -11,5 +11,5 @@ shorter (y ∷ xs) x e = omega arith
 pub loop-report-smaller : goal.loop-report-smaller
 loop-report-smaller c =
     let xs = reports c.loop-report.tray in
-    let e = ap length c.in-Some.ensures.others in
-    omega (arith, e, shorter xs c.in-Some.report c.in-Some.ensures.oldest)
+    let e = ap length c.in-Some.ensures.reports in
+    omega (arith, e, shorter xs c.in-Some.report c.in-Some.ensures.result)
