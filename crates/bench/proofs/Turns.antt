@@ -1,7 +1,6 @@
 -- Arming and resting, by the standings and by the history.
-use Rattle.std.proofs.Common.{◌≡◌, ℕ, ◌-◌, Bool, true, false, cond, not, eqb, leb, [], ◌∷◌, get_or, set, Some, None, Option, is_ok, Ok, Err, sym, refl, ap, ◌∙◌, ⊎_elim, arith}
-use Rattle.std.proofs.lemmas.List.{get_or-set_same, get_or-set_other}
-use Rattle.std.proofs.lemmas.Bool.{and_parts, leb-true, cases_Bool, cases_eq, eq-eqb, ne_eqb, both_ways}
+use Rattle.std.proofs.Common.{◌≡◌, ℕ, ◌-◌, Bool, true, false, cond, not, eqb, ◌∷◌, get_or, set, Some, None, Option, is_ok, Ok, Err, sym, refl, ap, ◌∙◌, ⊎_elim}
+use Rattle.std.proofs.lemmas.Bool.{cases_eq, eq-eqb, ne_eqb, both_ways}
 use Rattle.refusals.specs.declared.Refusal.TheVariants.{NoSuchLine, AlreadyArmed, AlreadyResting}
 use Rattle.book.specs.Book.{Book, has_number}
 use Rattle.book.specs.Rules.{within}

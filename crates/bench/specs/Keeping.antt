@@ -32,24 +32,24 @@ turn_of Arm n = arm n
 turn_of Rest n = rest n
 
 -- over a kind of cell and a sort of finder, by what their traits say of them
-module _ {C F S X Y : Type 0} (cell : Cell.Ghosts C S X) (finder : Finder.Ghosts F C Y S X) where
+module _ {C F S X Y : Type 0} (kind : Cell.Ghosts C S X) (sort : Finder.Ghosts F C Y S X) where
   -- A feed: whichever book and history a bench has, the answer is the defined one, and the bench has later been through
   -- the history after the call.
-  pub record Fed (bench : Bench C F S X Y cell finder) (s : S) (r : Result (ℕ × Numbers × ℤ) Refusal) (later : Bench C F S X Y cell finder) : Type 0 where
-    pub answer : (b : Book C) (h : History S) → Represents cell finder bench b h → told r ≡ feed_answer cell.hears (takes finder.reads) b h s
-    pub history : (b : Book C) (h : History S) → Represents cell finder bench b h → Represents cell finder later b (after (takes finder.reads) b h (feed s))
+  pub record Fed (bench : Bench C F S X Y kind sort) (s : S) (r : Result (ℕ × Numbers × ℤ) Refusal) (later : Bench C F S X Y kind sort) : Type 0 where
+    pub answer : (b : Book C) (h : History S) → Represents kind sort bench b h → told r ≡ feed_answer kind.hears (takes sort.reads) b h s
+    pub history : (b : Book C) (h : History S) → Represents kind sort bench b h → Represents kind sort later b (after (takes sort.reads) b h (feed s))
 
   -- Arm, rest or clear: likewise.
-  pub record Did (bench : Bench C F S X Y cell finder) (c : Call S) (r : Result (Unit {0}) Refusal) (later : Bench C F S X Y cell finder) : Type 0 where
-    pub answer : (b : Book C) (h : History S) → Represents cell finder bench b h → r ≡ verdict (takes finder.reads) b h c
-    pub history : (b : Book C) (h : History S) → Represents cell finder bench b h → Represents cell finder later b (after (takes finder.reads) b h c)
+  pub record Did (bench : Bench C F S X Y kind sort) (c : Call S) (r : Result (Unit {0}) Refusal) (later : Bench C F S X Y kind sort) : Type 0 where
+    pub answer : (b : Book C) (h : History S) → Represents kind sort bench b h → r ≡ verdict (takes sort.reads) b h c
+    pub history : (b : Book C) (h : History S) → Represents kind sort bench b h → Represents kind sort later b (after (takes sort.reads) b h c)
 
   -- The standing question: likewise, and nothing is altered.
-  pub record Stands (bench : Bench C F S X Y cell finder) (n : ℕ) (r : Option LineState) : Type 0 where
-    pub answer : (b : Book C) (h : History S) → Represents cell finder bench b h → r ≡ standing_answer b h n
+  pub record Stands (bench : Bench C F S X Y kind sort) (n : ℕ) (r : Option LineState) : Type 0 where
+    pub answer : (b : Book C) (h : History S) → Represents kind sort bench b h → r ≡ standing_answer b h n
 
   -- a sample that feed does not refuse, and the symbol that it is read as
-  pub record Ready (bench : Bench C F S X Y cell finder) (s : S) (y : Y) : Type 0 where
-    pub read : finder.reads s ≡ Some y
-    pub heard : Heard cell.hears finder.admits y s
+  pub record Ready (bench : Bench C F S X Y kind sort) (s : S) (y : Y) : Type 0 where
+    pub read : sort.reads s ≡ Some y
+    pub heard : Heard kind sort y s
     pub room : bench.desk.count < 4000000000

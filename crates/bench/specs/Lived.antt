@@ -7,7 +7,7 @@ use Rattle.bench.specs.declared.benches.Bench.{Bench}
 use Rattle.bench.specs.Life.{Lives}
 
 -- over a kind of cell and a sort of finder, by what their traits say of them
-module _ {C F S X Y : Type 0} (cell : Cell.Ghosts C S X) (finder : Finder.Ghosts F C Y S X) where
+module _ {C F S X Y : Type 0} (kind : Cell.Ghosts C S X) (sort : Finder.Ghosts F C Y S X) where
   -- a bench of a book has been through a history
-  pub record Represents (bench : Bench C F S X Y cell finder) (b : Book C) (h : History S) : Type 0 where
-    pub lives : Lives cell.hears finder.book finder.stands bench.finder bench.desk b h
+  pub record Represents (bench : Bench C F S X Y kind sort) (b : Book C) (h : History S) : Type 0 where
+    pub lives : Lives kind sort bench.finder bench.desk b h

@@ -15,5 +15,5 @@ pub struct Bench<C: Cell, F: Finder<C>> {
     finder: F,
     desk: Desk,
     kind: PhantomData<C>,
-    ghost lived: { ∥ Lived C.Cell.hears F.Finder.book F.Finder.stands finder desk ∥₁ },
+    ghost lived: { ∥ Lived C.Cell F.Finder finder desk ∥₁ },
 }

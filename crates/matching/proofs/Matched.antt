@@ -1,12 +1,14 @@
 -- One tick of a finder and a ring, and a ring that is cleared, put together from what the parts promise.
 use Rattle.std.proofs.Common.{◌≡◌, ℕ, Bool, false, sym, List, [], ◌∷◌, ◌+◌, ◌-◌, length, ap, ◌∙◌, subst, arith}
 use Rattle.std.specs.List.{AllByRecursion}
+use Rattle.cells.specs.declared.kinds.Cell as Cell
 use Rattle.book.specs.declared.rows.LineRow.{LineRow}
 use Rattle.book.specs.declared.rows.KeywordRow.{KeywordRow}
 use Rattle.book.specs.Book.{Book, all_keywords}
 use Rattle.book.specs.Proper.{Proper, ProperLine}
 use Rattle.book.specs.Rows.{line_rows, keyword_rows}
 use Rattle.columns.specs.declared.marks.Column.{Column}
+use Rattle.finders.specs.declared.finding.Finder as Finder
 use Rattle.finders.proofs.LatestRuns.{no_run}
 use Rattle.lookback.specs.declared.lookbacks.Lookback.{Lookback}
 use Rattle.lookback.specs.Prefixes.{prefix_ends}
@@ -41,6 +43,6 @@ pub ring_cleared : {C S : Type 0} (hears : C → S → Bool) (b : Book C) (newes
 ring_cleared hears b newest shown f = f (line_rows b) (keyword_rows b) (pasts hears b newest) shown
 
 -- a finder whose runs are cleared has had no sample
-pub had_none : {C S F : Type 0} (hears : C → S → Bool) (book : F → Book C) (stands : F → ℕ → Bool) (f later : F) → book later ≡ book f → ((p : ℕ) → stands later p ≡ false)
-    → (b : Book C) → book f ≡ b → Proper b → Has hears book stands later b []
-had_none hears book stands f later same none b of proper = record { of = same ∙ of; proper = proper; runs = λ p. none p ∙ sym (no_run hears (all_keywords b) p) }
+pub had_none : {C F S X Y : Type 0} (kind : Cell.Ghosts C S X) (sort : Finder.Ghosts F C Y S X) (f later : F) → sort.book later ≡ sort.book f → ((p : ℕ) → sort.stands later p ≡ false)
+    → (b : Book C) → sort.book f ≡ b → Proper b → Has kind sort later b []
+had_none kind sort f later same none b of proper = record { of = same ∙ of; proper = proper; runs = λ p. none p ∙ sym (no_run kind.hears (all_keywords b) p) }

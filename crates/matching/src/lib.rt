@@ -13,8 +13,8 @@ use lookback::lookbacks::Lookback;
 
 // Gives a finder a symbol, and answers the keywords that end with it.
 fn spot<C: Cell, F: Finder<C>>(finder: &mut F, symbol: F::Symbol) -> Column
-    ensures finder { (b : Book C) (newest : List C.Sample) (s : C.Sample) → Has C.Cell.hears F.Finder.book F.Finder.stands finder.old b newest → Heard C.Cell.hears F.Finder.admits symbol s → Has C.Cell.hears F.Finder.book F.Finder.stands finder.new b (s ∷ newest) }
-    ensures spots { (b : Book C) (newest : List C.Sample) (s : C.Sample) → Has C.Cell.hears F.Finder.book F.Finder.stands finder.old b newest → Heard C.Cell.hears F.Finder.admits symbol s → Spots C.Cell.hears result b (s ∷ newest) }
+    ensures finder { (b : Book C) (newest : List C.Sample) (s : C.Sample) → Has C.Cell F.Finder finder.old b newest → Heard C.Cell F.Finder symbol s → Has C.Cell F.Finder finder.new b (s ∷ newest) }
+    ensures spots { (b : Book C) (newest : List C.Sample) (s : C.Sample) → Has C.Cell F.Finder finder.old b newest → Heard C.Cell F.Finder symbol s → Spots C.Cell.hears result b (s ∷ newest) }
 {
     finder.take(symbol);
     finder.ended_all()
@@ -23,14 +23,14 @@ fn spot<C: Cell, F: Finder<C>>(finder: &mut F, symbol: F::Symbol) -> Column
 // Clears a finder: it has had no sample.
 fn restart<C: Cell, F: Finder<C>>(finder: &mut F)
     ensures book { F.Finder.book finder.new ≡ F.Finder.book finder.old }
-    ensures finder { (b : Book C) → F.Finder.book finder.old ≡ b → Proper b → Has C.Cell.hears F.Finder.book F.Finder.stands finder.new b [] }
+    ensures finder { (b : Book C) → F.Finder.book finder.old ≡ b → Proper b → Has C.Cell F.Finder finder.new b [] }
 {
     finder.clear();
 }
 
 /// Clears a finder, and makes the look-back ring of its book.
 pub fn start<C: Cell, F: Finder<C>>(finder: &mut F) -> Lookback
-    ensures { Sees C.Cell.hears F.Finder.book F.Finder.stands finder.new result (F.Finder.book finder.old) [] }
+    ensures { Sees C.Cell F.Finder finder.new result (F.Finder.book finder.old) [] }
 {
     restart::<C, F>(finder);
     Lookback::new::<C, F>(finder)
@@ -43,8 +43,8 @@ pub fn take<C: Cell, F: Finder<C>>(
     lookback: &mut Lookback,
     symbol: F::Symbol,
 ) -> Column
-    ensures sees { (b : Book C) (newest : List C.Sample) (s : C.Sample) → Sees C.Cell.hears F.Finder.book F.Finder.stands finder.old lookback.old b newest → Heard C.Cell.hears F.Finder.admits symbol s → Sees C.Cell.hears F.Finder.book F.Finder.stands finder.new lookback.new b (s ∷ newest) }
-    ensures occur { (b : Book C) (newest : List C.Sample) (s : C.Sample) → Sees C.Cell.hears F.Finder.book F.Finder.stands finder.old lookback.old b newest → Heard C.Cell.hears F.Finder.admits symbol s → Occur C.Cell.hears result b (s ∷ newest) }
+    ensures sees { (b : Book C) (newest : List C.Sample) (s : C.Sample) → Sees C.Cell F.Finder finder.old lookback.old b newest → Heard C.Cell F.Finder symbol s → Sees C.Cell F.Finder finder.new lookback.new b (s ∷ newest) }
+    ensures occur { (b : Book C) (newest : List C.Sample) (s : C.Sample) → Sees C.Cell F.Finder finder.old lookback.old b newest → Heard C.Cell F.Finder symbol s → Occur C.Cell.hears result b (s ∷ newest) }
 {
     let ended = spot::<C, F>(finder, symbol);
     lookback.step(ended)
@@ -52,7 +52,7 @@ pub fn take<C: Cell, F: Finder<C>>(
 
 /// Forgets every tick: the finder's runs, and what the ring shows.
 pub fn clear<C: Cell, F: Finder<C>>(finder: &mut F, lookback: &mut Lookback)
-    ensures { (b : Book C) (newest : List C.Sample) → Sees C.Cell.hears F.Finder.book F.Finder.stands finder.old lookback.old b newest → Sees C.Cell.hears F.Finder.book F.Finder.stands finder.new lookback.new b [] }
+    ensures { (b : Book C) (newest : List C.Sample) → Sees C.Cell F.Finder finder.old lookback.old b newest → Sees C.Cell F.Finder finder.new lookback.new b [] }
 {
     restart::<C, F>(finder);
     lookback.clear();

@@ -25,7 +25,7 @@ const MOST_TICKS: u32 = 4_000_000_000;
 
 // Clears a finder, and makes the desk of a bench over it that has been through nothing.
 fn begin<C: Cell, F: Finder<C>>(finder: &mut F) -> Desk
-    ensures { Lives C.Cell.hears F.Finder.book F.Finder.stands finder.new result (F.Finder.book finder.old) [] }
+    ensures { Lives C.Cell F.Finder finder.new result (F.Finder.book finder.old) [] }
 {
     let lookback = start::<C, F>(finder);
     let lines = finder.lines();

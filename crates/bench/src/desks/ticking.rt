@@ -71,7 +71,7 @@ impl Desk {
     }
 
     // Counts a tick, whose column has the mark of the last keyword of each line that occurs: notes the reports, and
-    // answers the tick, the reported numbers and the points.
+    // answers the tick, the reported numbers and the points: a tuple, as feed answers it.
     pub(crate) fn tick(&mut self, column: Column) -> (u32, Numbers, i32)
         requires { self.old.count < 4000000000 }
         ensures { Ticked self.old column result self.new }

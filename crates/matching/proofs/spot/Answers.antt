@@ -10,7 +10,7 @@ pub returns : goal.returns
 returns g c =
     let hears : g.row.C.Denot → g.row.C-Sample.Denot → Bool = g.C.Cell.hears in
     let stood = g.F.Finder.stands c.args.finder.now in
-    let next : (b : Book g.row.C.Denot) (newest : List g.row.C-Sample.Denot) (s : g.row.C-Sample.Denot) → Has hears g.F.Finder.book g.F.Finder.stands c.args.finder.now b newest → Heard hears g.F.Finder.admits c.args.symbol s → Has hears g.F.Finder.book g.F.Finder.stands c.take.new.self b (s ∷ newest) = λ b newest s r heard. record {
+    let next : (b : Book g.row.C.Denot) (newest : List g.row.C-Sample.Denot) (s : g.row.C-Sample.Denot) → Has g.C.Cell g.F.Finder c.args.finder.now b newest → Heard g.C.Cell g.F.Finder c.args.symbol s → Has g.C.Cell g.F.Finder c.take.new.self b (s ∷ newest) = λ b newest s r heard. record {
       of = c.take.ensures.book ∙ r.of;
       proper = r.proper;
       runs = λ p. c.take.ensures.stands p ∙ (λ i. taken (r.of i) (λ x. heard.alike x i) stood p) ∙ taken_newest hears b stood newest s r.runs p;

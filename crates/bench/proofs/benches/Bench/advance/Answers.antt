@@ -17,14 +17,12 @@ invariant_of-self g c =
       lived = ∥∥₁_map c.args.self.now.lived (λ l.
           let b = l.0 in
           let h = l.1 in
-          (b, feed s ∷ h, lives_on g.C.Cell.hears g.F.Finder.book g.F.Finder.stands c.args.self.now.finder c.args.self.now.desk b h l.2 s c.take-column.new.lookback c.take-column.result c.tick.result c.tick.new.self (c.take-column.ensures.occur b (samples h) s l.2.sees ready.heard) c.tick.ensures c.take-column.new.finder (c.take-column.ensures.sees b (samples h) s l.2.sees ready.heard)));
+          (b, feed s ∷ h, lives_on g.C.Cell g.F.Finder c.args.self.now.finder c.args.self.now.desk b h l.2 s c.take-column.new.lookback c.take-column.result c.tick.result c.tick.new.self (c.take-column.ensures.occur b (samples h) s l.2.sees ready.heard) c.tick.ensures c.take-column.new.finder (c.take-column.ensures.sees b (samples h) s l.2.sees ready.heard)));
     }
 
 pub returns : goal.returns
 returns g c s ready =
     let hears = g.C.Cell.hears in
-    let book = g.F.Finder.book in
-    let stands = g.F.Finder.stands in
     let reads = takes g.F.Finder.reads in
     let f = c.args.self.now.finder in
     let d = c.args.self.now.desk in
@@ -32,12 +30,12 @@ returns g c s ready =
     record {
       answer = λ b h r.
           let room : count h < 4000000000 = omega (arith, r.lives.ticks, ready.room) in
-          ap Ok (tells hears book stands f d b h r.lives s c.take-column.new.lookback c.take-column.result c.tick.result c.tick.new.self (c.take-column.ensures.occur b (samples h) s r.lives.sees ready.heard) c.tick.ensures reads)
+          ap Ok (tells g.C.Cell g.F.Finder f d b h r.lives s c.take-column.new.lookback c.take-column.result c.tick.result c.tick.new.self (c.take-column.ensures.occur b (samples h) s r.lives.sees ready.heard) c.tick.ensures reads)
           ∙ sym (fed_answer hears reads b h s taken room);
       history = λ b h r.
           let room : count h < 4000000000 = omega (arith, r.lives.ticks, ready.room) in
           record {
-            lives = subst (λ x. Lives hears book stands c.take-column.new.finder c.tick.new.self b x) (sym (fed_after hears reads b h s taken room))
-                (lives_on hears book stands f d b h r.lives s c.take-column.new.lookback c.take-column.result c.tick.result c.tick.new.self (c.take-column.ensures.occur b (samples h) s r.lives.sees ready.heard) c.tick.ensures c.take-column.new.finder (c.take-column.ensures.sees b (samples h) s r.lives.sees ready.heard));
+            lives = subst (λ x. Lives g.C.Cell g.F.Finder c.take-column.new.finder c.tick.new.self b x) (sym (fed_after hears reads b h s taken room))
+                (lives_on g.C.Cell g.F.Finder f d b h r.lives s c.take-column.new.lookback c.take-column.result c.tick.result c.tick.new.self (c.take-column.ensures.occur b (samples h) s r.lives.sees ready.heard) c.tick.ensures c.take-column.new.finder (c.take-column.ensures.sees b (samples h) s r.lives.sees ready.heard));
           };
     }

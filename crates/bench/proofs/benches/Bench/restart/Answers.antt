@@ -14,8 +14,8 @@ invariant_of-self g c = record {
       let rows = c.lines.ensures.rows ∙ ap line_rows sees.finder.of in (
         b,
         clear ∷ h,
-        cleared g.C.Cell.hears g.F.Finder.book g.F.Finder.stands c.clear.new.finder _ b h
-            (fresh g.C.Cell.hears g.F.Finder.book g.F.Finder.stands c.clear.new.finder _ b sees l.2.lines refl c.lines.result.now rows c.new-self.ensures c.none-self.ensures),
+        cleared g.C.Cell g.F.Finder c.clear.new.finder _ b h
+            (fresh g.C.Cell g.F.Finder c.clear.new.finder _ b sees l.2.lines refl c.lines.result.now rows c.new-self.ensures c.none-self.ensures),
       ));
 }
 
@@ -26,7 +26,7 @@ returns g c = record {
     lives =
         let sees = c.clear.ensures b (samples h) r.lives.sees in
         let rows = c.lines.ensures.rows ∙ ap line_rows sees.finder.of in
-        cleared g.C.Cell.hears g.F.Finder.book g.F.Finder.stands c.clear.new.finder _ b h
-        (fresh g.C.Cell.hears g.F.Finder.book g.F.Finder.stands c.clear.new.finder _ b sees r.lives.lines refl c.lines.result.now rows c.new-self.ensures c.none-self.ensures);
+        cleared g.C.Cell g.F.Finder c.clear.new.finder _ b h
+        (fresh g.C.Cell g.F.Finder c.clear.new.finder _ b sees r.lives.lines refl c.lines.result.now rows c.new-self.ensures c.none-self.ensures);
   };
 }

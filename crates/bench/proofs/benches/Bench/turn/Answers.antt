@@ -14,7 +14,7 @@ invariant_of-self g c =
     let t = c.args.turn in
     record {
       lived = ∥∥₁_map c.args.self.now.lived (λ l.
-          (l.0, after reads l.0 l.1 (turn_of t n), turn_kept g.C.Cell.hears g.F.Finder.book g.F.Finder.stands reads c.args.self.now.finder c.args.self.now.desk l.0 l.1 l.2 n t c.turn.new.self c.turn.ensures.table));
+          (l.0, after reads l.0 l.1 (turn_of t n), turn_kept g.C.Cell g.F.Finder reads c.args.self.now.finder c.args.self.now.desk l.0 l.1 l.2 n t c.turn.new.self c.turn.ensures.table));
     }
 
 pub returns : goal.returns
@@ -24,5 +24,5 @@ returns g c =
     let t = c.args.turn in
     record {
       answer = λ b h r. c.turn.ensures.answer ∙ ap (λ s. answer s t) (r.lives.standings n) ∙ answers reads b h n t;
-      history = λ b h r. record { lives = turn_kept g.C.Cell.hears g.F.Finder.book g.F.Finder.stands reads c.args.self.now.finder c.args.self.now.desk b h r.lives n t c.turn.new.self c.turn.ensures.table };
+      history = λ b h r. record { lives = turn_kept g.C.Cell g.F.Finder reads c.args.self.now.finder c.args.self.now.desk b h r.lives n t c.turn.new.self c.turn.ensures.table };
     }

@@ -22,4 +22,4 @@ returns g c =
     let rows = c.lines-lines.ensures.rows ∙ ap line_rows same in
     let keys = c.keywords.ensures.rows ∙ ap keyword_rows same in
     let lines = c.watched_lines.ensures ∙ (λ i. map (watched_row (keys i)) (rows i)) ∙ listed_book b sees.finder.proper.each in
-    fresh g.C.Cell.hears g.F.Finder.book g.F.Finder.stands c.start-lookback.new.finder _ b sees lines refl c.lines-lines.result.now rows c.new.ensures c.none.ensures
+    fresh g.C.Cell g.F.Finder c.start-lookback.new.finder _ b sees lines refl c.lines-lines.result.now rows c.new.ensures c.none.ensures

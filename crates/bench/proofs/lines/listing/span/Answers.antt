@@ -1,4 +1,4 @@
-use Rattle.std.proofs.Common.{◌≡◌, ℕ, ◌+◌, ◌-◌, List, [], ◌∷◌, sum, fold, map, take, drop, refl, sym, ap, ◌∙◌, arith}
+use Rattle.std.proofs.Common.{◌≡◌, ℕ, ◌+◌, ◌-◌, List, [], ◌∷◌, sum, fold, map, take, drop, ap, ◌∙◌, arith}
 use Rattle.book.specs.Cutting.{total}
 use Rattle.bench.specs.Listed.{row_span}
 use Rattle.bench.proofs.lines.listing.span.Goals as goal

@@ -1,5 +1,5 @@
 use Rattle.std.proofs.Common.{◌-◌, length, Some, get_or, set, take, pos, sym, refl, ap, ◌∙◌}
-use Rattle.std.proofs.lemmas.List.{length-set, take_more, take_all}
+use Rattle.std.proofs.lemmas.List.{length-set, take_more}
 use Rattle.book.specs.declared.rows.LineRow.{LineRow}
 use Rattle.book.specs.Rules.{within}
 use Rattle.standings.specs.declared.turns.Standing.TheVariants.{Armed}
