@@ -11,17 +11,11 @@ use cells::kinds::Cell;
 pub(crate) const PLACES: usize = 1023;
 
 /// A place: whether it is the first of its keyword, and whether a run stands there.
-#[derive(Clone, Copy)]
+#[derive(Clone, Copy, Default)]
 pub struct Place {
     first: bool,
     runs: bool,
 }
-
-// A place that is not the first of a keyword, without a run.
-pub(crate) const IDLE: Place = Place {
-    first: false,
-    runs: false,
-};
 
 impl Place {
     // The place once a symbol is taken, where a run stood one place earlier or not.
@@ -42,7 +36,7 @@ pub(crate) fn places_of<C: Cell>(book: &SealedBook<'_, C>) -> [Place; PLACES]
     ensures begun { (p : ℕ) → p < 1023 → first_at result p ≡ begins (sealed_book book.now) p }
     ensures still { (p : ℕ) → runs_at result p ≡ false }
 {
-    let mut places = [IDLE; PLACES];
+    let mut places = [Place::default(); PLACES];
     for keyword in book.keywords() {
         places[keyword.first as usize].first = true;
     }

@@ -1,13 +1,20 @@
-use Rattle.std.proofs.Common.{◌<◌, map, get_or, take, sym, refl, ap, ◌∙◌, arith}
+use Rattle.std.proofs.Common.{◌≡◌, ◌<◌, false, map, get_or, take, replicate, sym, refl, ap, subst, ◌∙◌, arith}
 use Rattle.std.proofs.lemmas.List.{length-set, map_more}
 use Rattle.book.specs.declared.rows.KeywordRow.{KeywordRow}
 use Rattle.book.specs.Book.{among}
+use Rattle.finders.specs.Places.{first_at, runs_at}
 use Rattle.finders.proofs.Marks.{never}
 use Rattle.finders.proofs.Steps.{idle, first_more, still_more}
 use Rattle.finders.proofs.rows.places.places_of.Goals as goal
 
 pub loop-keyword-init : goal.loop-keyword-init
-loop-keyword-init g c = record { long = refl; begun = λ p h. ap (λ x. x.first) (never idle 1023 p); still = λ p. ap (λ x. x.runs) (never idle 1023 p) }
+loop-keyword-init g c =
+    let e : idle ≡ c.default-places.result = (λ i. record { first = sym c.default-places.ensures.0 i; runs = sym c.default-places.ensures.1 i }) in
+    record {
+      long = refl;
+      begun = λ p h. subst (λ x. first_at (replicate 1023 x) p ≡ false) e (ap (λ x. x.first) (never idle 1023 p));
+      still = λ p. subst (λ x. runs_at (replicate 1023 x) p ≡ false) e (ap (λ x. x.runs) (never idle 1023 p));
+    }
 
 pub loop-keyword-preserved : goal.loop-keyword-preserved
 loop-keyword-preserved g c =
