@@ -1,4 +1,4 @@
-// The sealed book.
+// The sealed book. A type of its own, so that a late enter does not compile.
 ghost use Rattle.std.specs.Prelude.{◌≤◌, length};
 
 use crate::ledgers::Ledger;
