@@ -72,6 +72,7 @@ impl<C: Cell, W: Finder<C>, X: Finder<C>, Y: Finder<C>> Trio<
 ///
 /// Each answer is the defined one. Where the book of the first finder is parted between the books of the other two, and
 /// the three take the same samples, nothing is added, lost or shifted at any step: see `AllShared`.
+// Three finders one by one, and no Trio of them, since the clauses name each.
 pub fn run_parted<C: Cell, W: Finder<C> + Drop, X: Finder<C> + Drop, Y: Finder<C> + Drop>(
     whole: W,
     first: X,

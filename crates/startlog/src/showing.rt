@@ -19,6 +19,8 @@ pub(crate) fn show(rt: &impl Print, book: &SealedBook<'_, LetterCell>) -> io::Re
     Ok(())
 }
 
+// A line's row.
+// Piece by piece, since a Display would have to hold the line beside both of the book's tables.
 fn show_line(rt: &impl Print, book: &SealedBook<'_, LetterCell>, line: &LineRow) -> io::Result<()> {
     print!(rt; "{:>4}{:>8}{:>4} ", line.number, line.points, line.lag)?;
     let first = line.first as usize;
@@ -36,6 +38,7 @@ fn show_line(rt: &impl Print, book: &SealedBook<'_, LetterCell>, line: &LineRow)
     println!(rt; "")
 }
 
+// A keyword in letters.
 fn show_keyword(
     rt: &impl Print,
     book: &SealedBook<'_, LetterCell>,
