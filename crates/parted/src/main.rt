@@ -16,7 +16,7 @@ use parting::commands::{Answer, Command, Trio};
 use parting::runs::run_parted;
 use programs::{PLACES, Program, run};
 use std::alloc::Global;
-use std::io::Write;
+use std::io::{BufWriter, Write};
 
 /// What a place of the log holds before it is written.
 const UNWRITTEN: Trio = Trio {
@@ -38,8 +38,11 @@ fn enter_both(
 struct Parted;
 
 impl Program for Parted {
+    // What is written is tested, and nothing is promised of it.
+    ghost leaves = { λ _ _ _. Unit {0} };
+
     // Enters the pages, runs the commands on three benches, and writes what they answer.
-    fn answer(alloc: Global, input: &[u8], out: &mut impl Write) -> anyhow::Result<()> {
+    fn answer<W: Write>(alloc: Global, input: &[u8], out: &mut W) -> anyhow::Result<()> {
         let (makers, rest) = split_page(input);
         let (yards, rest) = split_page(rest);
         let mut whole_memory = [LetterCell::default(); PLACES];
@@ -74,7 +77,10 @@ impl Program for Parted {
 }
 
 fn main(rt: HostRuntime) -> anyhow::Result<()> {
-    run::<Parted>(&rt)
+    let mut out = BufWriter::new(rt.alloc(), rt.stdout())?;
+    run::<Parted, _, _>(rt.alloc(), &mut rt.stdin(), &mut out)?;
+    out.flush()?;
+    Ok(())
 }
 
 #[cfg(test)]

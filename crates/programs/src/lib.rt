@@ -1,44 +1,59 @@
 // What the programs share: an input that is read whole, an output that is buffered, and the rows of refusals.
 #![tactic(auto)]
 
+ghost use Rattle.std.specs.Prelude.{◌≡◌, ◌↔◌, ℕ, List, [], Option, Some, IsTrue, OnOk, IfOk, IfSome};
+ghost use Rattle.std.specs.Io.KnownBytes.{Appends};
+ghost use Rattle.printout.specs.Rows.{refusal_row};
+
 use printout::{ROOM, refusal_row};
 use refusals::Refusal;
 use std::alloc::Global;
 use std::io;
-use std::io::{BufWriter, Read, Write};
+use std::io::{Read, Write};
 
 /// The cells of each book of a program.
 pub const PLACES: usize = 1023;
 
 /// A program that writes an output for an input.
 pub trait Program {
-    fn answer(alloc: Global, input: &[u8], out: &mut impl Write) -> anyhow::Result<()>;
+    // what the program may leave in an output, for an input and what the output held before
+    ghost leaves: { List ℕ → Option (List ℕ) → Option (List ℕ) → Type 0 };
+
+    fn answer<W: Write>(alloc: Global, input: &[u8], out: &mut W) -> anyhow::Result<()>
+        ensures { OnOk result (leaves input.now (W.contents out.old) (W.contents out.new)) };
 }
 
-/// Runs a program on standard input and standard output.
-pub fn run<P: Program>(rt: &HostRuntime) -> anyhow::Result<()> {
-    let mut input = Vec::new(rt.alloc());
-    rt.stdin().read_to_end(&mut input)?;
-    let mut out = BufWriter::new(rt.alloc(), rt.stdout())?;
-    P::answer(rt.alloc(), &input, &mut out)?;
-    out.flush()?;
-    Ok(())
+/// Runs a program on all of an input.
+pub fn run<P: Program, R: Read, W: Write>(
+    alloc: Global,
+    reader: &mut R,
+    out: &mut W,
+) -> anyhow::Result<()>
+    ensures { OnOk result (IfSome (R.remaining reader.old) (λ input. P.leaves input (W.contents out.old) (W.contents out.new))) }
+{
+    let mut input = Vec::new(alloc);
+    reader.read_to_end(&mut input)?;
+    P::answer(alloc, &input, out)
 }
 
-/// Whether a program writes exactly an output for an input.
-pub fn answers<P: Program>(alloc: Global, input: &[u8], output: &[u8]) -> anyhow::Result<bool> {
+/// Whether a program writes exactly an output for an input, where nothing was written before.
+pub fn answers<P: Program>(alloc: Global, input: &[u8], output: &[u8]) -> anyhow::Result<bool>
+    ensures { IfOk result (λ same. (left : List ℕ) × P.leaves input.now (Some []) (Some left) × (IsTrue same ↔ (left ≡ output.now))) }
+{
     let mut out = Vec::new(alloc);
     P::answer(alloc, input, &mut out)?;
     Ok(out.as_slice() == output)
 }
 
 /// Writes the row of a refusal.
-pub fn write_refusal(
-    out: &mut impl Write,
+pub fn write_refusal<W: Write>(
+    out: &mut W,
     refusal: Refusal,
     row: usize,
     column: usize,
-) -> io::Result<()> {
+) -> io::Result<()>
+    ensures { OnOk result (Appends (W.contents out.old) (W.contents out.new) (refusal_row refusal row column)) }
+{
     let mut bytes = [0; ROOM];
     let length = refusal_row(refusal, row as u64, column as u64, &mut bytes).unwrap();
     out.write_all(&bytes[..length])
@@ -46,6 +61,9 @@ pub fn write_refusal(
 
 #[cfg(test)]
 mod tests {
+    ghost use Rattle.std.specs.Prelude.{◌++◌};
+    ghost use Rattle.std.specs.Io.KnownBytes.{Appends};
+
     use super::*;
     use std::test::Fail;
 
@@ -53,7 +71,9 @@ mod tests {
     struct Twice;
 
     impl Program for Twice {
-        fn answer(_alloc: Global, input: &[u8], out: &mut impl Write) -> anyhow::Result<()> {
+        ghost leaves = { λ input old new. Appends old new (input ++ input) };
+
+        fn answer<W: Write>(_alloc: Global, input: &[u8], out: &mut W) -> anyhow::Result<()> {
             out.write_all(input)?;
             out.write_all(input)?;
             Ok(())

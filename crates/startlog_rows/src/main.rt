@@ -12,13 +12,16 @@ use inputs::{split_page, split_row};
 use page::pages::enter_page;
 use programs::{PLACES, Program, run, write_refusal};
 use std::alloc::Global;
-use std::io::Write;
+use std::io::{BufWriter, Write};
 
 struct StartlogRows;
 
 impl Program for StartlogRows {
+    // What is written is tested, and nothing is promised of it.
+    ghost leaves = { λ _ _ _. Unit {0} };
+
     // Reads the page up to an empty row and the trace up to the end of its row, and writes the rows.
-    fn answer(_alloc: Global, input: &[u8], out: &mut impl Write) -> anyhow::Result<()> {
+    fn answer<W: Write>(_alloc: Global, input: &[u8], out: &mut W) -> anyhow::Result<()> {
         let (page, rest) = split_page(input);
         let (trace, _) = split_row(rest);
         let mut memory = [LetterCell::default(); PLACES];
@@ -35,7 +38,10 @@ impl Program for StartlogRows {
 }
 
 fn main(rt: HostRuntime) -> anyhow::Result<()> {
-    run::<StartlogRows>(&rt)
+    let mut out = BufWriter::new(rt.alloc(), rt.stdout())?;
+    run::<StartlogRows, _, _>(rt.alloc(), &mut rt.stdin(), &mut out)?;
+    out.flush()?;
+    Ok(())
 }
 
 #[cfg(test)]
