@@ -12,7 +12,7 @@ use cells::letters::LetterCell;
 use inputs::split_row;
 
 impl Flaw {
-    // The flaw of a row of the page.
+    // The flaw of a row of the page. No `From`, since the row's number comes beside it.
     fn at(self, row: usize) -> Fault
         ensures { result ≡ fault_at row self }
     {

@@ -18,7 +18,7 @@ use programs::{PLACES, Program, run};
 use std::alloc::Global;
 use std::io::{BufWriter, Write};
 
-/// What a place of the log holds before it is written.
+/// What a place of the log holds before it is written. Written out, since an answer has no default.
 const UNWRITTEN: Trio = Trio {
     whole: Ok(Answer::Done),
     first: Ok(Answer::Done),

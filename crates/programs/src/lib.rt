@@ -1,7 +1,7 @@
 // What the programs share: an input that is read whole, an output that is buffered, and the rows of refusals.
 #![tactic(auto)]
 
-ghost use Rattle.std.specs.Prelude.{◌≡◌, ◌↔◌, ℕ, List, [], Option, Some, IsTrue, OnOk, IfOk, IfSome};
+ghost use Rattle.std.specs.Prelude.{◌≡◌, ◌↔◌, ℕ, List, [], ◌++◌, Option, Some, IsTrue, OnOk, IfOk, IfSome};
 ghost use Rattle.std.specs.Io.KnownBytes.{Appends};
 ghost use Rattle.printout.specs.Rows.{refusal_row};
 
@@ -61,9 +61,6 @@ pub fn write_refusal<W: Write>(
 
 #[cfg(test)]
 mod tests {
-    ghost use Rattle.std.specs.Prelude.{◌++◌};
-    ghost use Rattle.std.specs.Io.KnownBytes.{Appends};
-
     use super::*;
     use std::test::Fail;
 
@@ -84,6 +81,14 @@ mod tests {
     fn outputs(rt: HostRuntime) -> Result<(), Fail> {
         assert!(rt; answers::<Twice>(rt.alloc(), b"AB", b"ABAB")?);
         assert!(rt; !answers::<Twice>(rt.alloc(), b"AB", b"AB")?);
+        Ok(())
+    }
+
+    #[test]
+    fn runs(rt: HostRuntime) -> Result<(), Fail> {
+        let mut out = Vec::new(rt.alloc());
+        run::<Twice, _, _>(rt.alloc(), &mut b"AB".as_slice(), &mut out)?;
+        assert!(rt; out.as_slice() == b"ABAB".as_slice());
         Ok(())
     }
 
