@@ -140,11 +140,11 @@ mod tests {
 
     // What is told of a row of letters P by its length alone.
     fn told_by_length(length: usize) -> Told {
-        let whole = length >= 32 && length <= 347 && (length - 11) % 21 == 0;
+        let whole = (32..=347).contains(&length) && (length - 11) % 21 == 0;
         if whole {
             Told(0, '-', 0, 0)
         } else {
-            Told(21, 'r', 1, length + 1)
+            Told(21, 'r', 1, length.saturating_add(1))
         }
     }
 
