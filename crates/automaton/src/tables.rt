@@ -12,7 +12,7 @@ mod reading;
 // Four slices side by side, since the caller lends one row of numbers, which is cut into them.
 #[derive(Drop)]
 pub struct Tables<'a> {
-    book: SealedBook<'a, LetterCell>,
+    pub(crate) book: SealedBook<'a, LetterCell>,
     // where each letter leads from each state
     next: &'a [u16],
     // the fail link of each state

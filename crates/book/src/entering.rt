@@ -106,6 +106,7 @@ impl<C: Cell> Entry<'_, C> {
         ensures { rows.new.items ≡ rows.old.items ++ keyword_rows_from place (0 ∷ self.now.gaps.now) self.now.lengths.now }
     {
         let mut first = place;
+        // An index, since the gap before a keyword stands in another slice, which has none before the first.
         for (i, length) in self.lengths.iter().enumerate() {
             let gap = self.gap_before(i);
             rows.push(KeywordRow {

@@ -22,7 +22,7 @@ pub struct KeywordRow {
 }
 
 impl KeywordRow {
-    /// The last place of the keyword. Where there are no places up to there, it is place 0.
+    /// The last place of the keyword; 0 where it begins at place 0 and has no length.
     pub fn last_place(&self) -> usize
         ensures { result ≡ self.now.first + self.now.length - 1 }
     {

@@ -21,7 +21,7 @@ impl<const FIRST: usize, const N: usize> Bits<FIRST, N> {
         requires { J.IsAlwaysCallable join }
         ensures { (i : ℕ) → i < N → J.post join (slice_index self.entry.words i) (slice_index other.entry.words i) (slice_index result.words i) }
     {
-        // By index, since the words of both sets stand at it.
+        // By index, since nothing is known of what is written by `zip`.
         for (i, word) in self.words.iter_mut().enumerate() {
             *word = join(*word, other.words[i]);
         }

@@ -195,13 +195,10 @@ fn enter_line<T: Copy, C: Cell, F: Fn(T) -> Result<C, Refusal>>(
 ) -> Result<(), Refusal>
     requires { F.IsAlwaysCallable made.now }
 {
-    let written = line.cells;
-    let count = written.len().min(room.len());
-    // An index, since what is written is read at it and the cells are made.
-    for (i, cell) in written[0..count].iter().enumerate() {
-        room[i] = made(*cell)?;
+    for (place, written) in room.iter_mut().zip(line.cells) {
+        *place = made(*written)?;
     }
-    let cells = &room[0..count];
+    let cells = &room[..line.cells.len().min(room.len())];
     book.enter(Entry {
         number: line.number,
         points: 0,

@@ -49,7 +49,7 @@ impl<C: Cell, W: Finder<C>, X: Finder<C>, Y: Finder<C>> Trio<
         requires { length commands.now ≡ length log.old }
         ensures { AllRan C.Cell W.Finder X.Finder Y.Finder self.old commands.now log.new self.new }
     {
-        // An index, since the log is written where the command stands.
+        // An index, since the log is written where the command stands, and nothing is known of what is written by `zip`.
         for (i, command) in commands.iter().enumerate() {
             log[i] = self.answer(*command);
         }

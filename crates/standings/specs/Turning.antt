@@ -11,7 +11,7 @@ use Rattle.standings.specs.declared.turns.Turn.{Turn}
 use Rattle.standings.specs.declared.turns.Turn.TheVariants.{Arm, Rest}
 use Rattle.standings.specs.declared.tables.Standings.{Standings}
 
--- whether a turn is accepted, or its refusal: no line of the number has no standing
+-- whether a turn is accepted, or its refusal; a number without a line has no standing, and is refused
 abbrev pub answer : Option Standing → Turn → Result (Unit {0}) Refusal
 answer None t = Err NoSuchLine
 answer (Some (Armed m)) Arm = Err AlreadyArmed

@@ -13,8 +13,7 @@ use tray::{Report, Tray};
 /// As many reports as a tick may have: one for each line of a book.
 const REPORTS: usize = 128;
 
-// Writes the row of a tick. It stands beside `write_refusal`, since one function for both would call a closure, and its
-// caller would have to show that it may.
+// Writes the row of a tick. It stands beside `write_refusal`, as one function for both would be no shorter.
 fn write_tick(out: &mut impl Write, tick: u32, points: i32, reported: Numbers) -> io::Result<()> {
     let mut bytes = [0; ROOM];
     let length = tick_row(tick, points, reported, &mut bytes).unwrap();

@@ -73,10 +73,10 @@ impl<'a> Finder<LetterCell> for LetterAutomaton<'a> {
     }
 
     fn lines(&self) -> &[LineRow] {
-        self.tables.lines()
+        self.tables.book.lines()
     }
 
     fn keywords(&self) -> &[KeywordRow] {
-        self.tables.keywords()
+        self.tables.book.keywords()
     }
 }

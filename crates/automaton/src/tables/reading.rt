@@ -1,7 +1,5 @@
 // What the tables tell.
-ghost use Rattle.std.specs.Prelude.{◌≡◌, ℕ, ◌+◌, ◌-◌, ◌<◌, ◌≤◌, false, List, length, MatchOption, ◌≢◌};
-ghost use Rattle.book.specs.Proper.{Proper, AllFit};
-ghost use Rattle.book.specs.Rows.{line_rows, keyword_rows};
+ghost use Rattle.std.specs.Prelude.{◌≡◌, ℕ, ◌+◌, ◌-◌, ◌<◌, ◌≤◌, false, List, MatchOption, ◌≢◌};
 ghost use Rattle.cells.specs.Letters.{letter_admits};
 ghost use Rattle.finders.specs.Latest.{run};
 ghost use Rattle.finders.specs.Runs.{taken, ends};
@@ -12,7 +10,7 @@ ghost use Rattle.automaton.specs.Walk.{meets};
 
 use crate::memory::{ROOT, edge};
 use crate::tables::Tables;
-use book::rows::{KeywordRow, LineRow};
+use book::rows::KeywordRow;
 use cells::letters::{Letter, LetterCell};
 
 impl<'a> Tables<'a> {
@@ -81,22 +79,5 @@ impl<'a> Tables<'a> {
             }
         }
         &cells[0..0]
-    }
-
-    // The lines of the book.
-    pub(crate) fn lines(&self) -> &[LineRow]
-        ensures rows { result.now ≡ line_rows (book_of self.now) }
-        ensures proper { Proper (book_of self.now) }
-    {
-        self.book.lines()
-    }
-
-    // The keywords of the book.
-    pub(crate) fn keywords(&self) -> &[KeywordRow]
-        ensures rows { result.now ≡ keyword_rows (book_of self.now) }
-        ensures fit { AllFit result.now }
-        ensures few { length result.now ≤ 512 }
-    {
-        self.book.keywords()
     }
 }

@@ -58,9 +58,7 @@ impl<C: Cell, F: Finder<C>> Bench<C, F> {
         ensures accepted { IfOk result (λ y. Ready C.Cell F.Finder self.now sample y) }
         ensures refused { IfErr result (λ e. Fed C.Cell F.Finder self.now sample (Err e) self.now) }
     {
-        let Some(symbol) = F::read(sample) else {
-            return Err(Refusal::NoSymbol);
-        };
+        let symbol = F::read(sample).ok_or(Refusal::NoSymbol)?;
         if self.desk.count >= MOST_TICKS {
             return Err(Refusal::TicksSpent);
         }
@@ -107,21 +105,14 @@ impl<C: Cell, F: Finder<C>> Bench<C, F> {
         self.turn(number, Turn::Rest)
     }
 
-    // Forgets every tick and every turn; the lines stay.
-    fn restart(&mut self)
+    /// Returns to the just made condition: forgets every tick and every turn; the lines stay.
+    pub fn clear(&mut self)
         ensures { Did C.Cell F.Finder self.old clear (Ok tt) self.new }
     {
         clear::<C, F>(&mut self.finder, &mut self.desk.lookback);
         self.desk.standings = Standings::new(self.finder.lines());
         self.desk.recent = Recent::none();
         self.desk.count = 0;
-    }
-
-    /// Returns to the just made condition.
-    pub fn clear(&mut self)
-        ensures { Did C.Cell F.Finder self.old clear (Ok tt) self.new }
-    {
-        self.restart();
     }
 
     // The standing of a number, as it is kept.

@@ -15,10 +15,7 @@ use standings::turns::Standing;
 fn started(standing: Option<Standing>, span: u32, tick: u32) -> bool
     ensures { result ≡ starts_after standing span tick }
 {
-    match standing {
-        Some(Standing::Armed { mark }) => mark as u64 + span as u64 <= tick as u64,
-        _ => false,
-    }
+    matches!(standing, Some(Standing::Armed { mark }) if mark as u64 + span as u64 <= tick as u64)
 }
 
 impl Desk {

@@ -53,7 +53,7 @@ pub(crate) fn move_on<C: Cell>(places: &mut [Place; PLACES], cells: &[C], symbol
     ensures rest { (p : ℕ) → length cells.now ≤ p → runs_at places.new p ≡ runs_at places.old p }
 {
     let mut stood = false;
-    // An index, since the cells are read at it and the places are written.
+    // An index, since a place is read and written where its cell stands, and nothing is known of what is written by `zip`.
     for (i, cell) in cells.iter().enumerate() {
         let place = places[i];
         places[i] = place.after(stood, cell, symbol);
