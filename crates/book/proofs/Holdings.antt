@@ -13,22 +13,23 @@ use Rattle.book.specs.Proper.{Proper, AllFit}
 use Rattle.book.specs.Rows.{line_rows, keyword_rows, keyword_rows_from}
 use Rattle.book.specs.Rules.{length_ok, gap_ok}
 use Rattle.book.specs.Stored.{held}
+use Rattle.book.specs.Tables.{items}
 use Rattle.book.proofs.Amongs.{any_line}
 use Rattle.book.proofs.Cuts.{laid_parts, laid_total, length_cut, lengths-cut, joined-cut}
 use Rattle.book.proofs.Lines.{size, keywords_again, numbers_again, rows_again, gaps_again, all_proper, keyword_rows_again}
 use Rattle.book.proofs.Passes.{pass_map, pass_weaker}
 
 abbrev pub lengths_in : Ledger → List ℕ
-lengths_in b = map (λ k. k.length) b.keywords.items
+lengths_in b = map (λ k. k.length) (items b.keywords)
 
 abbrev pub gaps_in : Ledger → List ℕ
-gaps_in b = map (λ k. k.gap) b.keywords.items
+gaps_in b = map (λ k. k.gap) (items b.keywords)
 
-pub size_is : (b : Ledger) → size b.lines.items ≡ length b.keywords.items
-size_is b = let e = laid_total (λ (l : LineRow). l.first) (λ (l : LineRow). l.keywords) b.lines.items 0 (length b.keywords.items) b.joined in omega arith
+pub size_is : (b : Ledger) → size (items b.lines) ≡ length (items b.keywords)
+size_is b = let e = laid_total (λ (l : LineRow). l.first) (λ (l : LineRow). l.keywords) (items b.lines) 0 (length (items b.keywords)) b.joined in omega arith
 
 pub total_is : (b : Ledger) → total (lengths_in b) ≡ b.cell_count
-total_is b = let e = laid_total (λ (k : KeywordRow). k.first) (λ (k : KeywordRow). k.length) b.keywords.items 0 b.cell_count b.laid in omega arith
+total_is b = let e = laid_total (λ (k : KeywordRow). k.first) (λ (k : KeywordRow). k.length) (items b.keywords) 0 b.cell_count b.laid in omega arith
 
 -- keywords that lie one after another and are within their limits fit
 all_fit : (ks : List KeywordRow) (from to : ℕ) → keywords_laid ks from to ≡ true → to ≤ 1023 → list_all keyword_ok ks ≡ true → AllFit ks
@@ -50,36 +51,36 @@ all_fit (x ∷ ks) from to h m p (suc k) d l =
     all_fit ks (from + x.length) to q.1 m (and_parts (keyword_ok x) _ p).1 k d (omega arith)
 
 module _ {C : Type 0} (b : Ledger) (memory : List C) where
-  pub sized_gaps : size b.lines.items ≡ length (gaps_in b)
-  sized_gaps = size_is b ∙ sym (length-map b.keywords.items (λ k. k.gap))
+  pub sized_gaps : size (items b.lines) ≡ length (gaps_in b)
+  sized_gaps = size_is b ∙ sym (length-map (items b.keywords) (λ k. k.gap))
 
-  pub sized_keywords : size b.lines.items ≡ length (cut (lengths_in b) memory)
-  sized_keywords = size_is b ∙ sym (length_cut (lengths_in b) memory ∙ length-map b.keywords.items (λ k. k.length))
+  pub sized_keywords : size (items b.lines) ≡ length (cut (lengths_in b) memory)
+  sized_keywords = size_is b ∙ sym (length_cut (lengths_in b) memory ∙ length-map (items b.keywords) (λ k. k.length))
 
   pub held_keywords : all_keywords (held b memory) ≡ cut (lengths_in b) memory
   unfolding held
-  held_keywords = keywords_again b.lines.items (gaps_in b) (cut (lengths_in b) memory) sized_keywords
+  held_keywords = keywords_again (items b.lines) (gaps_in b) (cut (lengths_in b) memory) sized_keywords
 
-  pub held_keyword_count : length (all_keywords (held b memory)) ≡ length b.keywords.items
+  pub held_keyword_count : length (all_keywords (held b memory)) ≡ length (items b.keywords)
   held_keyword_count = ap length held_keywords ∙ sym sized_keywords ∙ size_is b
 
   pub held_cells : all_cells (held b memory) ≡ take b.cell_count memory
   held_cells = ap (flat_map (λ k. k)) held_keywords ∙ joined-cut (lengths_in b) memory ∙ ap (λ n. take n memory) (total_is b)
 
-  pub held_numbers : map (λ l. l.number) (held b memory) ≡ map (λ l. l.number) b.lines.items
+  pub held_numbers : map (λ l. l.number) (held b memory) ≡ map (λ l. l.number) (items b.lines)
   unfolding held
-  held_numbers = numbers_again b.lines.items (gaps_in b) (cut (lengths_in b) memory)
+  held_numbers = numbers_again (items b.lines) (gaps_in b) (cut (lengths_in b) memory)
 
-  pub held_has_number : (n : ℕ) → has_number n (held b memory) ≡ list_any (λ l. eqb l.number n) b.lines.items
-  held_has_number n = ap (among n) held_numbers ∙ sym (any_line n b.lines.items)
+  pub held_has_number : (n : ℕ) → has_number n (held b memory) ≡ list_any (λ l. eqb l.number n) (items b.lines)
+  held_has_number n = ap (among n) held_numbers ∙ sym (any_line n (items b.lines))
 
-  pub held_lines : line_rows (held b memory) ≡ b.lines.items
+  pub held_lines : line_rows (held b memory) ≡ items b.lines
   unfolding held
-  held_lines = rows_again b.lines.items (gaps_in b) (cut (lengths_in b) memory) 0 (length b.keywords.items) b.joined sized_keywords
+  held_lines = rows_again (items b.lines) (gaps_in b) (cut (lengths_in b) memory) 0 (length (items b.keywords)) b.joined sized_keywords
 
   held_gaps : all_gaps (held b memory) ≡ gaps_in b
   unfolding held
-  held_gaps = gaps_again b.lines.items b.keywords.items (cut (lengths_in b) memory) (size_is b) b.openings b.proper
+  held_gaps = gaps_again (items b.lines) (items b.keywords) (cut (lengths_in b) memory) (size_is b) b.openings b.proper
 
   module _ (room : b.cell_count ≤ length memory) where
     pub held_cell_count : length (all_cells (held b memory)) ≡ b.cell_count
@@ -88,29 +89,29 @@ module _ {C : Type 0} (b : Ledger) (memory : List C) where
     lengths_again : map length (cut (lengths_in b) memory) ≡ lengths_in b
     lengths_again = lengths-cut (lengths_in b) memory (omega (arith, total_is b))
 
-    pub held_keyword_rows : keyword_rows (held b memory) ≡ b.keywords.items
+    pub held_keyword_rows : keyword_rows (held b memory) ≡ items b.keywords
     held_keyword_rows =
         ap (λ gs. keyword_rows_from 0 gs (map length (all_keywords (held b memory)))) held_gaps
         ∙ ap (λ ks. keyword_rows_from 0 (gaps_in b) (map length ks)) held_keywords
         ∙ ap (keyword_rows_from 0 (gaps_in b)) lengths_again
-        ∙ keyword_rows_again b.keywords.items 0 b.cell_count b.laid
+        ∙ keyword_rows_again (items b.keywords) 0 b.cell_count b.laid
 
     pub held_proper : Proper (held b memory)
     unfolding held
     held_proper =
-        let ks = b.keywords.items in
+        let ks = items b.keywords in
         let gaps = pass_weaker keyword_ok (λ k. gap_ok k.gap) (λ k h. (and_parts (length_ok k.length) _ h).1) ks b.sized in
         let lengths = pass_weaker keyword_ok (λ k. length_ok k.length) (λ k h. (and_parts (length_ok k.length) _ h).0) ks b.sized in
         record {
           each =
-              all_proper b.lines.items (gaps_in b) (cut (lengths_in b) memory) sized_gaps sized_keywords b.proper
+              all_proper (items b.lines) (gaps_in b) (cut (lengths_in b) memory) sized_gaps sized_keywords b.proper
               (pass_map gap_ok (λ k. k.gap) ks ∙ gaps)
               (sym (pass_map length_ok length (cut (lengths_in b) memory)) ∙ ap (list_all length_ok) lengths_again ∙ pass_map length_ok (λ k. k.length) ks ∙ lengths);
           apart = ap distinct held_numbers ∙ b.apart;
-          lines = let n = sym (length-map (held b memory) (λ l. l.number)) ∙ ap length held_numbers ∙ length-map b.lines.items (λ l. l.number) in omega (arith, n, b.few.0);
+          lines = let n = sym (length-map (held b memory) (λ l. l.number)) ∙ ap length held_numbers ∙ length-map (items b.lines) (λ l. l.number) in omega (arith, n, b.few.0);
           keywords = omega (arith, held_keyword_count, b.few.1);
           cells = omega (arith, held_cell_count, b.few.2);
         }
 
-pub keywords_fit : (b : Ledger) → AllFit b.keywords.items
-keywords_fit b = all_fit b.keywords.items 0 b.cell_count b.laid b.few.2 b.sized
+pub keywords_fit : (b : Ledger) → AllFit (items b.keywords)
+keywords_fit b = all_fit (items b.keywords) 0 b.cell_count b.laid b.few.2 b.sized

@@ -13,6 +13,7 @@ use Rattle.book.specs.Layout.{lines_laid, keywords_laid, opens, opened, distinct
 use Rattle.book.specs.Rows.{keyword_rows_from}
 use Rattle.book.specs.Rules.{number_ok, within}
 use Rattle.book.specs.Stored.{held, lines_from}
+use Rattle.book.specs.Tables.{items}
 use Rattle.book.proofs.Cuts.{laid-append, length_cut, cut-append, cut_same, take-filled, cut-filled}
 use Rattle.book.proofs.Few.{few, distinct_push}
 use Rattle.book.proofs.Holdings.{lengths_in, gaps_in, size_is, total_is, sized_gaps, sized_keywords}
@@ -31,26 +32,26 @@ opened_push (x ∷ ls) l ks js e h k =
 
 module _ {C : Type 0} (b : Ledger) (q : Request C) (a : Admitted b q) where
   abbrev pub row : LineRow
-  row = line_row (length b.keywords.items) q
+  row = line_row (length (items b.keywords)) q
 
   abbrev pub rows : List KeywordRow
   rows = keyword_rows_from b.cell_count (0 ∷ q.gaps) q.lengths
 
-  pub numbers_apart : distinct (map (λ l. l.number) (b.lines.items ++ row ∷ [])) ≡ true
-  numbers_apart = ap distinct (map-append (λ l. l.number) b.lines.items (row ∷ [])) ∙ distinct_push (map (λ l. l.number) b.lines.items) q.number b.apart a.fresh
+  pub numbers_apart : distinct (map (λ l. l.number) (items b.lines ++ row ∷ [])) ≡ true
+  numbers_apart = ap distinct (map-append (λ l. l.number) (items b.lines) (row ∷ [])) ∙ distinct_push (map (λ l. l.number) (items b.lines)) q.number b.apart a.fresh
 
   row_ok : line_ok row ≡ true
   row_ok = and_from _ _ a.number (and_from _ _ a.points (and_from _ _ a.lag a.count))
 
-  pub lines_ok : list_all line_ok (b.lines.items ++ row ∷ []) ≡ true
-  lines_ok = pass_append line_ok b.lines.items (row ∷ []) b.proper (and_from _ _ row_ok refl)
+  pub lines_ok : list_all line_ok (items b.lines ++ row ∷ []) ≡ true
+  lines_ok = pass_append line_ok (items b.lines) (row ∷ []) b.proper (and_from _ _ row_ok refl)
 
   -- distinct numbers up to 128 leave room for one more
-  pub line_room : length b.lines.items < 128
+  pub line_room : length (items b.lines) < 128
   line_room =
-      let ok = pass_weaker line_ok (λ l. number_ok l.number) (λ l h. (and_parts (number_ok l.number) _ h).0) (b.lines.items ++ row ∷ []) lines_ok in
-      let n = few 128 (map (λ l. l.number) (b.lines.items ++ row ∷ [])) numbers_apart (pass_map (within 1 128) (λ l. l.number) (b.lines.items ++ row ∷ []) ∙ ok) in
-      let m = length-map (b.lines.items ++ row ∷ []) (λ l. l.number) ∙ length_push b.lines.items row in
+      let ok = pass_weaker line_ok (λ l. number_ok l.number) (λ l h. (and_parts (number_ok l.number) _ h).0) (items b.lines ++ row ∷ []) lines_ok in
+      let n = few 128 (map (λ l. l.number) (items b.lines ++ row ∷ [])) numbers_apart (pass_map (within 1 128) (λ l. l.number) (items b.lines ++ row ∷ []) ∙ ok) in
+      let m = length-map (items b.lines ++ row ∷ []) (λ l. l.number) ∙ length_push (items b.lines) row in
       omega arith
 
   gap_count : length (0 ∷ q.gaps) ≡ length q.lengths
@@ -59,38 +60,38 @@ module _ {C : Type 0} (b : Ledger) (q : Request C) (a : Admitted b q) where
   pub row_count : length rows ≡ length q.lengths
   row_count = rows-length b.cell_count (0 ∷ q.gaps) q.lengths
 
-  pub joined_after : lines_laid (b.lines.items ++ row ∷ []) 0 (length b.keywords.items + length q.lengths) ≡ true
-  joined_after = laid-append (λ l. l.first) (λ l. l.keywords) b.lines.items (row ∷ []) 0 (length b.keywords.items) _ b.joined (let k : ℕ = length b.keywords.items in and_from _ _ (eq-eqb k k refl) (eq-eqb (k + length q.lengths) (k + length q.lengths) refl))
+  pub joined_after : lines_laid (items b.lines ++ row ∷ []) 0 (length (items b.keywords) + length q.lengths) ≡ true
+  joined_after = laid-append (λ l. l.first) (λ l. l.keywords) (items b.lines) (row ∷ []) 0 (length (items b.keywords)) _ b.joined (let k : ℕ = length (items b.keywords) in and_from _ _ (eq-eqb k k refl) (eq-eqb (k + length q.lengths) (k + length q.lengths) refl))
 
-  pub laid_after : keywords_laid (b.keywords.items ++ rows) 0 (b.cell_count + length q.cells) ≡ true
+  pub laid_after : keywords_laid (items b.keywords ++ rows) 0 (b.cell_count + length q.cells) ≡ true
   laid_after =
-      ap (λ n. keywords_laid (b.keywords.items ++ rows) 0 (b.cell_count + n)) (sym a.cells)
-      ∙ laid-append (λ k. k.first) (λ k. k.length) b.keywords.items rows 0 b.cell_count _ b.laid (rows_laid b.cell_count (0 ∷ q.gaps) q.lengths)
+      ap (λ n. keywords_laid (items b.keywords ++ rows) 0 (b.cell_count + n)) (sym a.cells)
+      ∙ laid-append (λ k. k.first) (λ k. k.length) (items b.keywords) rows 0 b.cell_count _ b.laid (rows_laid b.cell_count (0 ∷ q.gaps) q.lengths)
 
-  pub opened_after : opened (b.lines.items ++ row ∷ []) (b.keywords.items ++ rows) ≡ true
-  opened_after = opened_push b.lines.items row b.keywords.items rows (size_is b) b.openings (rows_open b.cell_count q.gaps q.lengths (length q.lengths))
+  pub opened_after : opened (items b.lines ++ row ∷ []) (items b.keywords ++ rows) ≡ true
+  opened_after = opened_push (items b.lines) row (items b.keywords) rows (size_is b) b.openings (rows_open b.cell_count q.gaps q.lengths (length q.lengths))
 
-  pub sized_after : list_all keyword_ok (b.keywords.items ++ rows) ≡ true
-  sized_after = pass_append keyword_ok b.keywords.items rows b.sized (rows_ok b.cell_count (0 ∷ q.gaps) q.lengths a.gaps a.lengths)
+  pub sized_after : list_all keyword_ok (items b.keywords ++ rows) ≡ true
+  sized_after = pass_append keyword_ok (items b.keywords) rows b.sized (rows_ok b.cell_count (0 ∷ q.gaps) q.lengths a.gaps a.lengths)
 
   -- the book that is then held
-  pub held_after : (b' : Ledger) (m : List C) → b.cell_count ≤ length m → b'.lines.items ≡ b.lines.items ++ row ∷ [] → b'.keywords.items ≡ b.keywords.items ++ rows
+  pub held_after : (b' : Ledger) (m : List C) → b.cell_count ≤ length m → items b'.lines ≡ items b.lines ++ row ∷ [] → items b'.keywords ≡ items b.keywords ++ rows
       → held b' (filled m b.cell_count q.cells) ≡ held b m ++ line_of q ∷ []
   unfolding held
   held_after b' m room el ek =
       let m' : List C = filled m b.cell_count q.cells in
       let ns : List ℕ = q.lengths in
       let gs : List ℕ = 0 ∷ q.gaps in
-      let eg = ap (map (λ k. k.gap)) ek ∙ map-append (λ k. k.gap) b.keywords.items rows ∙ ap (λ xs. gaps_in b ++ xs) (rows_gaps b.cell_count gs ns gap_count) in
-      let en = ap (map (λ k. k.length)) ek ∙ map-append (λ k. k.length) b.keywords.items rows ∙ ap (λ xs. lengths_in b ++ xs) (rows_lengths b.cell_count gs ns) in
+      let eg = ap (map (λ k. k.gap)) ek ∙ map-append (λ k. k.gap) (items b.keywords) rows ∙ ap (λ xs. gaps_in b ++ xs) (rows_gaps b.cell_count gs ns gap_count) in
+      let en = ap (map (λ k. k.length)) ek ∙ map-append (λ k. k.length) (items b.keywords) rows ∙ ap (λ xs. lengths_in b ++ xs) (rows_lengths b.cell_count gs ns) in
       let old = cut_same (lengths_in b) b.cell_count m' m (omega (arith, total_is b)) (take-filled m q.cells b.cell_count room) in
       let new = ap (λ n. cut ns (drop n m')) (total_is b) ∙ cut-filled ns m q.cells b.cell_count room a.cells in
       let ec = ap (λ xs. cut xs m') en ∙ cut-append (lengths_in b) ns m' ∙ ap (λ xs. xs ++ cut ns (drop (total (lengths_in b)) m')) old ∙ ap (λ xs. cut (lengths_in b) m ++ xs) new in
-      let push = lines_push b.lines.items row (gaps_in b) gs (cut (lengths_in b) m) (cut ns q.cells) (sized_gaps b m) (sized_keywords b m) in
+      let push = lines_push (items b.lines) row (gaps_in b) gs (cut (lengths_in b) m) (cut ns q.cells) (sized_gaps b m) (sized_keywords b m) in
       let whole = take_all (length ns) (cut ns q.cells) (omega (arith, length_cut ns q.cells)) in
       let gaps = ap (drop 1) (take_all (length ns) gs (omega (arith, gap_count))) in
       let last : lines_from (row ∷ []) gs (cut ns q.cells) ≡ line_of q ∷ [] = λ i. record { number = q.number; points = q.points; lag = q.lag; keywords = whole i; gaps = gaps i } ∷ [] in
       ap (λ ls. lines_from ls (gaps_in b') (cut (lengths_in b') m')) el
-      ∙ ap (λ xs. lines_from (b.lines.items ++ row ∷ []) xs (cut (lengths_in b') m')) eg
-      ∙ ap (lines_from (b.lines.items ++ row ∷ []) (gaps_in b ++ gs)) ec
+      ∙ ap (λ xs. lines_from (items b.lines ++ row ∷ []) xs (cut (lengths_in b') m')) eg
+      ∙ ap (lines_from (items b.lines ++ row ∷ []) (gaps_in b ++ gs)) ec
       ∙ push ∙ ap (λ xs. held b m ++ xs) last

@@ -7,6 +7,7 @@ use Rattle.book.specs.Book.{among}
 use Rattle.book.specs.Cutting.{total}
 use Rattle.book.specs.Entering.{Request}
 use Rattle.book.specs.Rules.{number_ok, points_ok, lag_ok, count_ok, length_ok, gap_ok}
+use Rattle.book.specs.Tables.{items}
 
 -- the row of a line whose first keyword has that position
 abbrev pub line_row : {C : Type 0} → ℕ → Request C → LineRow
@@ -15,7 +16,7 @@ line_row first q = record { number = q.number; points = q.points; lag = q.lag; f
 -- a line that breaks no rule, for a ledger
 pub record Admitted {C : Type 0} (b : Ledger) (q : Request C) : Type 0 where
   pub number : number_ok q.number ≡ true
-  pub fresh : among q.number (map (λ l. l.number) b.lines.items) ≡ false
+  pub fresh : among q.number (map (λ l. l.number) (items b.lines)) ≡ false
   pub points : points_ok q.points ≡ true
   pub lag : lag_ok q.lag ≡ true
   pub count : count_ok (length q.lengths) ≡ true
@@ -23,7 +24,7 @@ pub record Admitted {C : Type 0} (b : Ledger) (q : Request C) : Type 0 where
   pub lengths : list_all length_ok q.lengths ≡ true
   pub cells : total q.lengths ≡ length q.cells
   pub gaps : list_all gap_ok q.gaps ≡ true
-  pub keyword_room : length b.keywords.items + length q.lengths ≤ 512
+  pub keyword_room : length (items b.keywords) + length q.lengths ≤ 512
   pub cell_room : b.cell_count + length q.cells ≤ 1023
 
 -- keywords that a table of so many rows has room for, and whose numbers fit a row

@@ -1,6 +1,7 @@
 pub mod Rules
 pub mod Book
 pub mod Cutting
+pub mod Tables
 pub mod Layout
 pub mod Stored
 pub mod Rows

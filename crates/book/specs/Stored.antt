@@ -6,6 +6,7 @@ use Rattle.book.specs.declared.open.OpenBook.{OpenBook}
 use Rattle.book.specs.declared.sealed.SealedBook.{SealedBook}
 use Rattle.book.specs.Book.{Book}
 use Rattle.book.specs.Cutting.{cut}
+use Rattle.book.specs.Tables.{items}
 
 -- lines made of the keywords one after another, with the gap before each
 abbrev pub lines_from : {C : Type 0} → List LineRow → List ℕ → List (List C) → Book C
@@ -22,7 +23,7 @@ lines_from (l ∷ ls) gaps keywords =
 
 -- the book in a ledger, whose cells are in a memory
 unfoldable pub held : {C : Type 0} → Ledger → List C → Book C
-held b memory = lines_from b.lines.items (map (λ k. k.gap) b.keywords.items) (cut (map (λ k. k.length) b.keywords.items) memory)
+held b memory = lines_from (items b.lines) (map (λ k. k.gap) (items b.keywords)) (cut (map (λ k. k.length) (items b.keywords)) memory)
 
 -- what an open book holds
 abbrev pub open_book : {C : Type 0} → OpenBook C → Book C

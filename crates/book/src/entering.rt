@@ -8,13 +8,14 @@ ghost use Rattle.book.specs.Entering.{request, counts_ok, lengths_ok, has_room, 
 ghost use Rattle.book.specs.Rows.{keyword_rows_from};
 ghost use Rattle.book.specs.Rules.{within, points_ok};
 ghost use Rattle.book.specs.Stored.{open_book, sealed_book, places};
+ghost use Rattle.book.specs.Tables.{items};
 
 use crate::entries::Entry;
 use crate::ledgers::Ledger;
 use crate::open::OpenBook;
-use crate::rows::{KeywordRow, LineRow};
+use crate::rows::{Counts, KeywordRow, LineRow};
 use crate::sealed::SealedBook;
-use arrayvec::ArrayVec;
+use crate::tables::Table;
 use cells::kinds::Cell;
 use refusals::Refusal;
 
@@ -101,9 +102,9 @@ impl<C: Cell> Entry<'_, C> {
     }
 
     // Puts a row for each keyword behind some rows, the cells from a place on.
-    fn push_keywords(&self, rows: &mut ArrayVec<KeywordRow, 512>, place: usize)
-        requires { Writable (length rows.old.items) place self.now.lengths.now self.now.gaps.now }
-        ensures { rows.new.items ≡ rows.old.items ++ keyword_rows_from place (0 ∷ self.now.gaps.now) self.now.lengths.now }
+    fn push_keywords(&self, rows: &mut Table<KeywordRow, 512>, place: usize)
+        requires { Writable (length (items rows.old)) place self.now.lengths.now self.now.gaps.now }
+        ensures { items rows.new ≡ items rows.old ++ keyword_rows_from place (0 ∷ self.now.gaps.now) self.now.lengths.now }
     {
         let mut first = place;
         // An index, since the gap before a keyword stands in another slice, which has none before the first.
@@ -122,20 +123,33 @@ impl<C: Cell> Entry<'_, C> {
 impl Ledger {
     // Tables with nothing in them. Written out, since no default is derived for a struct with ghost fields.
     fn new() -> Ledger
-        ensures lines { result.lines.items ≡ [] }
-        ensures keywords { result.keywords.items ≡ [] }
+        ensures lines { items result.lines ≡ [] }
+        ensures keywords { items result.keywords ≡ [] }
         ensures cells { result.cell_count ≡ 0 }
     {
         Ledger {
-            lines: ArrayVec::new(),
-            keywords: ArrayVec::new(),
+            lines: Table::new(),
+            keywords: Table::new(),
             cell_count: 0,
+        }
+    }
+
+    // How much there is of each.
+    pub(crate) fn counts(&self) -> Counts
+        ensures lines { result.lines ≡ length (items self.now.lines) }
+        ensures keywords { result.keywords ≡ length (items self.now.keywords) }
+        ensures cells { result.cells ≡ self.now.cell_count }
+    {
+        Counts {
+            lines: self.lines.len(),
+            keywords: self.keywords.len(),
+            cells: self.cell_count,
         }
     }
 
     // Whether there is a line of that number.
     pub(crate) fn has_number(&self, number: u16) -> bool
-        ensures { result ≡ list_any (λ l. l.number == number) self.now.lines.items }
+        ensures { result ≡ list_any (λ l. l.number == number) (items self.now.lines) }
     {
         self.lines
             .iter()
@@ -145,13 +159,13 @@ impl Ledger {
     // The line goes behind the others.
     fn push<C: Cell>(&mut self, entry: &Entry<'_, C>)
         requires { Admitted self.old (request entry.now) }
-        ensures lines { self.new.lines.items ≡ self.old.lines.items ++ line_row (length self.old.keywords.items) (request entry.now) ∷ [] }
-        ensures keywords { self.new.keywords.items ≡ self.old.keywords.items ++ keyword_rows_from self.old.cell_count (0 ∷ entry.now.gaps.now) entry.now.lengths.now }
+        ensures lines { items self.new.lines ≡ items self.old.lines ++ line_row (length (items self.old.keywords)) (request entry.now) ∷ [] }
+        ensures keywords { items self.new.keywords ≡ items self.old.keywords ++ keyword_rows_from self.old.cell_count (0 ∷ entry.now.gaps.now) entry.now.lengths.now }
         ensures cells { self.new.cell_count ≡ self.old.cell_count + length entry.now.cells.now }
     {
-        let first = self.keywords.len();
-        entry.push_keywords(&mut self.keywords, self.cell_count);
-        self.lines.push(entry.row(first));
+        let used = self.counts();
+        entry.push_keywords(&mut self.keywords, used.cells);
+        self.lines.push(entry.row(used.keywords));
         self.cell_count += entry.cells.len();
     }
 }
@@ -182,7 +196,7 @@ impl<'a, C: Cell> OpenBook<'a, C> {
         ensures { result ≡ has_room (open_book self.now) (places self.now) (request entry.now) }
     {
         let keywords = self.ledger.keywords.remaining_capacity();
-        let cells = self.cells.len().min(1023) - self.ledger.cell_count;
+        let cells = self.cells.len().min(1023) - self.ledger.counts().cells;
         entry.lengths.len() <= keywords && entry.cells.len() <= cells
     }
 

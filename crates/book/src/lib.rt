@@ -3,8 +3,10 @@
 
 pub mod entering;
 pub mod entries;
+mod filling;
 pub mod ledgers;
 pub mod open;
 pub mod rows;
 pub mod sealed;
+mod tables;
 pub mod telling;

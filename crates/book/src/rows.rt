@@ -21,6 +21,14 @@ pub struct KeywordRow {
     pub length: u8,
 }
 
+/// How much a book has of each.
+#[derive(Clone, Copy, PartialEq, Eq, Debug, Default)]
+pub struct Counts {
+    pub lines: usize,
+    pub keywords: usize,
+    pub cells: usize,
+}
+
 impl KeywordRow {
     /// The last place of the keyword; 0 where it begins at place 0 and has no length.
     pub fn last_place(&self) -> usize

@@ -35,7 +35,7 @@ impl<'a, C: Cell> SealedBook<'a, C> {
         ensures cells { result.now ≡ all_cells (sealed_book self.now) }
         ensures few { length result.now ≤ 1023 }
     {
-        &self.cells[..self.ledger.cell_count]
+        &self.cells[..self.ledger.counts().cells]
     }
 
     /// Whether there is a line of that number.

@@ -2,7 +2,7 @@
 use Rattle.std.proofs.Common.{◌≡◌, ℕ, suc, ◌+◌, ◌%◌, ◌<◌, ◌≤◌, true, false, not, ◌&&◌, ◌||◌, eqb, ltb, List, length, get_or, set, sym, refl, ap, ◌∙◌, inl, inr, arith}
 use Rattle.std.proofs.Math.Bool.{and-false, and-true, or-false, or_comm}
 use Rattle.std.proofs.lemmas.List.{get_or-set_same, get_or-set_other}
-use Rattle.std.proofs.lemmas.Bool.{both_ways, lt-ltb, le-ltb, le-leb, eq-eqb, ne_eqb, and_left, and_from, or_left, or_right, cases_eq}
+use Rattle.std.proofs.lemmas.Bool.{both_ways, lt-ltb, le-ltb, le-leb, eq-eqb, ne_eqb, and_left, and_from, and_parts, or_left, or_right, or_cases, eqb-true, cases_eq}
 use Rattle.std.proofs.lemmas.Bool.Decides.{nat_tests}
 use Rattle.book.specs.declared.rows.LineRow.{LineRow}
 use Rattle.book.specs.declared.rows.KeywordRow.{KeywordRow}
@@ -41,6 +41,7 @@ module _ (links : Links) (lines : List LineRow) (keywords : List KeywordRow) (j 
           | inl e ↦ absurd (both_ways (opens lines (suc k)) o (ap (λ x. opens lines (suc x)) e ∙ first))
           | inr ne ↦ t.listed k (omega arith) o
         ];
+    used = λ d m. let u = t.used d m in (u.0, omega (arith, u.1), u.2, u.3);
   }
 
   -- one that follows the one before it is marked there, and its distance is in use
@@ -74,10 +75,19 @@ module _ (links : Links) (lines : List LineRow) (keywords : List KeywordRow) (j 
           | inr ne ↦ n (reach keywords (suc k)) ∙ or_right _ _ (t.listed k (omega arith) o)
         ]
 
+    pub used_more : (near : Numbers) → ((n : ℕ) → member near n ≡ ((is_number d && eqb n d) || member links.near n))
+        → (e : ℕ) → member near e ≡ true → (k : ℕ) × (suc k < j + 2) × (opens lines (suc k) ≡ false) × (reach keywords (suc k) ≡ e)
+    used_more near n e m =
+        elim (or_cases (is_number d && eqb e d) (member links.near e) (sym (n e) ∙ m)) [
+          | inl it ↦ (j, omega arith, later, is ∙ sym (eqb-true e d (and_parts _ _ it).1))
+          | inr was ↦ let u = t.used e was in (u.0, omega (arith, u.1), u.2, u.3)
+        ]
+
 -- fewer than two keywords have no link
 pub none_linked : (links : Links) (lines : List LineRow) (keywords : List KeywordRow) → LinkedTo links lines keywords 1 → LinkedTo links lines keywords 0
 none_linked links lines keywords t = record {
   firsts = t.firsts;
   followed = λ d below k h. t.followed d below k h ∙ and_left _ _ (le-ltb (suc k) 1 (omega arith)) ∙ sym (and_left _ _ (le-ltb (suc k) 0 (omega arith)));
   listed = λ k h o. absurd (let z : ⊥ = omega arith in z);
+  used = λ d m. let u = t.used d m in absurd (let z : ⊥ = omega (arith, u.1) in z);
 }

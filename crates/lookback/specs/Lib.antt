@@ -1,4 +1,5 @@
 pub mod Prefixes
+pub mod Distances
 pub mod Linked
 pub mod Represented
 pub mod Ticking

@@ -16,8 +16,9 @@ mark_at columns i k = mark (slice_index_or columns i blank) k
 abbrev pub follows_at : List LineRow → List KeywordRow → ℕ → ℕ → ℕ → Bool
 follows_at lines keywords n d k = nat_lt (suc k) n && (not (opens lines (suc k)) && reach keywords (suc k) % 128 == d)
 
--- the links are those of the first n keywords
+-- the links are those of the first n keywords: the distances in use are those at which a keyword follows another, and no others
 pub record LinkedTo (links : Links) (lines : List LineRow) (keywords : List KeywordRow) (n : ℕ) : Type 0 where
   pub firsts : (k : ℕ) → k < 512 → mark links.firsts k ≡ opens lines k
   pub followed : (d : ℕ) → d < 128 → (k : ℕ) → k < 512 → mark_at links.follow d k ≡ follows_at lines keywords n d k
   pub listed : (k : ℕ) → suc k < n → opens lines (suc k) ≡ false → member links.near (reach keywords (suc k)) ≡ true
+  pub used : (d : ℕ) → member links.near d ≡ true → (k : ℕ) × (suc k < n) × (opens lines (suc k) ≡ false) × (reach keywords (suc k) ≡ d)

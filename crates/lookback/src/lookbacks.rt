@@ -1,6 +1,9 @@
 // The look-back ring.
 ghost use Rattle.std.specs.Prelude.{◌≡◌, ◌<◌, length};
+ghost use Rattle.columns.specs.Numbers.{rising};
+ghost use Rattle.lookback.specs.Distances.{listed};
 
+use crate::distances::Distances;
 use crate::links::Links;
 use columns::marks::Column;
 
@@ -10,9 +13,12 @@ pub mod stepping;
 #[derive(Clone, Copy)]
 pub struct Lookback {
     links: Links,
+    // the distances in use, listed once
+    near: Distances,
     ring: [Column; 128],
     // the slot of the newest column
     newest: usize,
     ghost whole: { length ring ≡ 128 },
     ghost inside: { newest < 128 },
+    ghost near_listed: { listed near ≡ rising links.near },
 }

@@ -11,6 +11,8 @@ use columns::marks::Column;
 use finders::finding::Finder;
 use lookback::lookbacks::Lookback;
 
+pub mod matchers;
+
 // Gives a finder a symbol, and answers the keywords that end with it.
 fn spot<C: Cell, F: Finder<C>>(finder: &mut F, symbol: F::Symbol) -> Column
     ensures finder { (b : Book C) (newest : List C.Sample) (s : C.Sample) → Has C.Cell F.Finder finder.old b newest → Heard C.Cell F.Finder symbol s → Has C.Cell F.Finder finder.new b (s ∷ newest) }
@@ -54,6 +56,6 @@ pub fn take<C: Cell, F: Finder<C>>(
 pub fn clear<C: Cell, F: Finder<C>>(finder: &mut F, lookback: &mut Lookback)
     ensures { (b : Book C) (newest : List C.Sample) → Sees C.Cell F.Finder finder.old lookback.old b newest → Sees C.Cell F.Finder finder.new lookback.new b [] }
 {
-    restart::<C, F>(finder);
     lookback.clear();
+    restart::<C, F>(finder)
 }

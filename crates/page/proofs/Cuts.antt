@@ -27,7 +27,7 @@ closed_or_not b bs true e = refl
 closed_or_not b bs false e = e
 
 -- the first row, and those behind it
-first_row : (bs : List ℕ) → 0 < length bs → rows_of bs ≡ take (row_length bs) bs ∷ rows_of (drop (row_length bs + 1) bs)
+pub first_row : (bs : List ℕ) → 0 < length bs → rows_of bs ≡ take (row_length bs) bs ∷ rows_of (drop (row_length bs + 1) bs)
 unfolding rows_of
 first_row [] h = absurd (omega arith)
 first_row (b ∷ []) h = closed_or_not b [] (eqb b 10) refl

@@ -43,7 +43,7 @@ pub no_first_gap : (row : List ℕ) (k column : ℕ) (field : List ℕ) → fiel
 no_first_gap row k column field e b = ap (λ o. unwrap_or o 0) (sym (blank_decimal field column b) ∙ ap decimal_in e)
 
 -- a decimal that was read, or its flaw
-decimal_cases : (o : Option ℕ) (column : ℕ) → MatchResult (ok_or o (at_column BadDecimal column)) (λ g. (g ≡ unwrap_or o 0) × (decimal_flaw column o ≡ None)) (λ f. decimal_flaw column o ≡ Some f)
+pub decimal_cases : (o : Option ℕ) (column : ℕ) → MatchResult (ok_or o (at_column BadDecimal column)) (λ g. (g ≡ unwrap_or o 0) × (decimal_flaw column o ≡ None)) (λ f. decimal_flaw column o ≡ Some f)
 decimal_cases None column = refl
 decimal_cases (Some x) column = (refl, refl)
 

@@ -6,11 +6,11 @@ use Rattle.cells.specs.declared.letters.LetterCell.{LetterCell}
 use Rattle.cells.specs.Letters.{letter_cell_of}
 use Rattle.page.specs.Letters.{letters_of, cell_before}
 
-letters_step : (f : List ℕ) (i : ℕ) → i < length f → letters_of (drop i f) ≡ cell_before (letter_cell_of (get_or f i 0)) (letters_of (drop (i + 1) f))
+pub letters_step : (f : List ℕ) (i : ℕ) → i < length f → letters_of (drop i f) ≡ cell_before (letter_cell_of (get_or f i 0)) (letters_of (drop (i + 1) f))
 unfolding letters_of
 letters_step f i h = at_drop_more letters_of f i 0 h
 
-letters_none : (f : List ℕ) (i : ℕ) → length f ≤ i → letters_of (drop i f) ≡ []
+pub letters_none : (f : List ℕ) (i : ℕ) → length f ≤ i → letters_of (drop i f) ≡ []
 unfolding letters_of
 letters_none f i h = at_drop_all letters_of f i h
 

@@ -24,7 +24,7 @@ module _ {C S : Type 0} (hears : C → S → Bool) (takes : S → Bool) (b : Boo
   replies_push h (x ∷ cs) c = ap (λ rs. reply hears takes b h x ∷ rs) (replies_push (then hears takes b h x) cs c)
 
 module _ {C F S X Y : Type 0} (kind : Cell.Ghosts C S X) (sort : Finder.Ghosts F C Y S X) where
-  ran_more : (bench now later : Bench C F S X Y kind sort) (cs : List (Command S)) (rs : List (Result Answer Refusal)) (c : Command S) (r : Result Answer Refusal)
+  pub ran_more : (bench now later : Bench C F S X Y kind sort) (cs : List (Command S)) (rs : List (Result Answer Refusal)) (c : Command S) (r : Result Answer Refusal)
       → Ran kind sort bench cs rs now → Answered kind sort now c r later
       → Ran kind sort bench (cs ++ c ∷ []) (rs ++ r ∷ []) later
   ran_more bench now later cs rs c r ran one = record {
@@ -36,7 +36,7 @@ module _ {C F S X Y : Type 0} (kind : Cell.Ghosts C S X) (sort : Finder.Ghosts F
   }
 
   -- one step of a loop over commands and a log
-  ran_step : {L : Type 0} (answer : L → Result Answer Refusal) (bench now later : Bench C F S X Y kind sort) (cs : List (Command S)) (log : List L) (i : ℕ) (c : Command S) (entry : L)
+  pub ran_step : {L : Type 0} (answer : L → Result Answer Refusal) (bench now later : Bench C F S X Y kind sort) (cs : List (Command S)) (log : List L) (i : ℕ) (c : Command S) (entry : L)
       → i < length cs → i < length log → c ≡ get_or cs i c
       → Ran kind sort bench (take i cs) (map answer (take i log)) now → Answered kind sort now c (answer entry) later
       → Ran kind sort bench (take (i + 1) cs) (map answer (take (i + 1) (set log i entry))) later

@@ -10,9 +10,8 @@ use automaton::letters::{LetterAutomaton, NUMBERS};
 use book::open::OpenBook;
 use cells::letters::LetterCell;
 use programs::PLACES;
-use std::io;
 
-fn run(rt: &impl Print) -> io::Result<()> {
+fn run(rt: &impl Print) -> anyhow::Result<()> {
     let mut memory = [LetterCell::default(); PLACES];
     let mut book = OpenBook::new(&mut memory);
     for line in example::LINES {
@@ -25,9 +24,10 @@ fn run(rt: &impl Print) -> io::Result<()> {
     showing::show(rt, &sealed)?;
     let mut numbers = [0u16; NUMBERS];
     let mut finder = LetterAutomaton::new(sealed, &mut numbers);
-    finding::watch(rt, &mut finder, example::TRACE)
+    finding::watch(rt, &mut finder, example::TRACE)?;
+    Ok(())
 }
 
-fn main(rt: HostRuntime) -> io::Result<()> {
+fn main(rt: HostRuntime) -> anyhow::Result<()> {
     run(&rt)
 }

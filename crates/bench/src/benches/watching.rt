@@ -105,14 +105,21 @@ impl<C: Cell, F: Finder<C>> Bench<C, F> {
         self.turn(number, Turn::Rest)
     }
 
-    /// Returns to the just made condition: forgets every tick and every turn; the lines stay.
-    pub fn clear(&mut self)
+    // Forgets every tick and every turn; the lines stay.
+    fn forget(&mut self)
         ensures { Did C.Cell F.Finder self.old clear (Ok tt) self.new }
     {
         clear::<C, F>(&mut self.finder, &mut self.desk.lookback);
         self.desk.standings = Standings::new(self.finder.lines());
         self.desk.recent = Recent::none();
         self.desk.count = 0;
+    }
+
+    /// Returns to the just made condition: forgets every tick and every turn; the lines stay.
+    pub fn clear(&mut self)
+        ensures { Did C.Cell F.Finder self.old clear (Ok tt) self.new }
+    {
+        self.forget();
     }
 
     // The standing of a number, as it is kept.

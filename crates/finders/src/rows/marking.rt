@@ -1,11 +1,11 @@
 // How a row finder is made, and that it is a finder.
 ghost use Rattle.std.specs.Prelude.{◌≡◌, ℕ, false};
 ghost use Rattle.book.specs.Stored.{sealed_book};
-ghost use Rattle.finders.specs.Places.{runs_at};
+ghost use Rattle.finders.specs.Places.{marked};
 
 use crate::finding::Finder;
 use crate::rows::RowFinder;
-use crate::rows::places::{move_on, places_of, runs_last};
+use crate::rows::places::{first_places, move_on, no_runs, runs_last};
 use book::rows::{KeywordRow, LineRow};
 use book::sealed::SealedBook;
 use cells::kinds::Cell;
@@ -14,10 +14,11 @@ impl<'a, C: Cell> RowFinder<'a, C> {
     /// A finder of a book's keywords, with no run.
     pub fn new(book: SealedBook<'a, C>) -> RowFinder<'a, C>
         ensures book { sealed_book result.book ≡ sealed_book book.entry }
-        ensures none { (p : ℕ) → runs_at result.places p ≡ false }
+        ensures none { (p : ℕ) → marked result.runs p ≡ false }
     {
-        let places = places_of(&book);
-        RowFinder { book, places }
+        let firsts = first_places(&book);
+        let runs = no_runs();
+        RowFinder { book, firsts, runs }
     }
 }
 
@@ -26,7 +27,7 @@ impl<'a, C: Cell> Finder<C> for RowFinder<'a, C> {
 
     ghost book = { λ f. sealed_book f.book };
 
-    ghost stands = { λ f p. runs_at f.places p };
+    ghost stands = { λ f p. marked f.runs p };
 
     ghost reads = { C.Cell.reads };
 
@@ -38,16 +39,16 @@ impl<'a, C: Cell> Finder<C> for RowFinder<'a, C> {
 
     fn take(&mut self, symbol: C::Symbol) {
         let cells = self.book.cells();
-        move_on(&mut self.places, cells, symbol);
+        move_on(&mut self.runs, &self.firsts, cells, symbol);
     }
 
     fn clear(&mut self) {
-        let places = places_of(&self.book);
-        self.places = places;
+        let none = no_runs();
+        self.runs = none;
     }
 
     fn ended(&self, keyword: usize) -> bool {
-        runs_last(&self.book, &self.places, keyword)
+        runs_last(&self.book, &self.runs, keyword)
     }
 
     fn lines(&self) -> &[LineRow] {

@@ -10,6 +10,7 @@ ghost use Rattle.lookback.specs.Linked.{LinkedTo};
 ghost use Rattle.lookback.specs.Represented.{Represents, looked_back};
 ghost use Rattle.lookback.specs.Ticking.{Shows, Ticks};
 
+use crate::distances::Distances;
 use crate::links::Links;
 use crate::lookbacks::Lookback;
 use cells::kinds::Cell;
@@ -32,6 +33,7 @@ impl Lookback {
     {
         Lookback {
             links,
+            near: Distances::of(links.near),
             ring: [Column::none(); 128],
             newest: 0,
         }
@@ -43,8 +45,8 @@ impl Lookback {
         ensures { (k : ℕ) → mark result k ≡ looked_back self.now from k }
     {
         let mut seen = Column::none();
-        for distance in self.links.near.members() {
-            let distance = distance as usize;
+        for distance in self.near.as_slice() {
+            let distance = *distance as usize;
             let column = self.ring[(from + 256 - distance) % 128];
             seen = seen.or(column.and(self.links.follow[distance % 128]));
         }

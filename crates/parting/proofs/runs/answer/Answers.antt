@@ -13,3 +13,12 @@ returns-in_ok-feed-in-Feed g c =
       replied = λ b h r. tick ∙ ap fed (c.feed.ensures.answer b h r);
       history = λ b h r. c.feed.ensures.history b h r;
     })
+
+pub returns-in_err-feed-in-Feed : goal.returns-in_err-feed-in-Feed
+returns-in_err-feed-in-Feed g c =
+    let refused : said c.from_residual.result ≡ fed (told c.feed.result) = search rules in
+    subst (λ (x : Command g.row.C-Sample.Denot). Answered g.C.Cell g.F.Finder c.args.bench.now x c.from_residual.result c.feed.new.self) (sym c.in-Feed.is)
+    (record {
+      replied = λ b h r. refused ∙ ap fed (c.feed.ensures.answer b h r);
+      history = λ b h r. c.feed.ensures.history b h r;
+    })

@@ -6,6 +6,7 @@ use Rattle.book.specs.Admitted.{Writable}
 use Rattle.book.specs.Cutting.{total}
 use Rattle.book.specs.Rows.{keyword_rows_from}
 use Rattle.book.specs.Rules.{gap_ok, length_ok}
+use Rattle.book.specs.Tables.{items}
 use Rattle.book.proofs.Passes.{pass_at}
 use Rattle.book.proofs.entries.Entry.push_keywords.Goals as goal
 
@@ -46,8 +47,8 @@ loop-i-preserved g c =
     let is : x ≡ record { gap = get_or gs i 0; first = c.loop-i.first; length = get_or ns i 0 } = λ k. record { gap = c.gap_before-gap.ensures k; first = c.loop-i.first; length = get_or ns i 0 } in
     let rest : List KeywordRow = keyword_rows_from (c.loop-i.first + c.from-first.result) (drop (i + 1) gs) (drop (i + 1) ns) in
     let e : rest ≡ keyword_rows_from (c.loop-i.first + get_or ns i 0) (drop (i + 1) gs) (drop (i + 1) ns) = ap (λ n. keyword_rows_from (c.loop-i.first + n) (drop (i + 1) gs) (drop (i + 1) ns)) c.from-first.ensures in
-    let joined : c.loop-i.rows.items ++ x ∷ [] ++ rest ≡ c.loop-i.rows.items ++ keyword_rows_from c.loop-i.first (drop i gs) (drop i ns) =
-    append_assoc c.loop-i.rows.items (x ∷ []) rest ∙ ap (λ ys. c.loop-i.rows.items ++ ys) ((λ k. is k ∷ e k) ∙ sym next) in
+    let joined : items c.loop-i.rows ++ x ∷ [] ++ rest ≡ items c.loop-i.rows ++ keyword_rows_from c.loop-i.first (drop i gs) (drop i ns) =
+    append_assoc (items c.loop-i.rows) (x ∷ []) rest ∙ ap (λ ys. items c.loop-i.rows ++ ys) ((λ k. is k ∷ e k) ∙ sym next) in
     record {
       rows = ap (λ ys. ys ++ rest) c.push.ensures.items ∙ joined ∙ c.loop-i.invariant.rows;
       first = let n = next_total ns i c.loop-i-test.true in omega (arith, n, c.loop-i.invariant.first, c.from-first.ensures);
@@ -58,4 +59,4 @@ pub returns : goal.returns
 returns g c =
     let i = c.loop-i.i in
     let none = ap (keyword_rows_from c.loop-i.first (drop i (0 ∷ c.args.self.now.gaps.now))) (drop_all i c.args.self.now.lengths.now c.loop-i-test.false) in
-    sym (append-nil c.loop-i.rows.items) ∙ ap (λ ys. c.loop-i.rows.items ++ ys) (sym none) ∙ c.loop-i.invariant.rows
+    sym (append-nil (items c.loop-i.rows)) ∙ ap (λ ys. items c.loop-i.rows ++ ys) (sym none) ∙ c.loop-i.invariant.rows

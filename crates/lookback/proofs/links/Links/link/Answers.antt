@@ -1,6 +1,6 @@
 use Rattle.std.proofs.Common.{◌+◌, sym, ap, ◌∙◌, add-one, arith}
 use Rattle.lookback.specs.Prefixes.{opens, reach}
-use Rattle.lookback.proofs.Grows.{opened_more, followed_more, listed_more}
+use Rattle.lookback.proofs.Grows.{opened_more, followed_more, listed_more, used_more}
 use Rattle.lookback.proofs.links.Links.link.Goals as goal
 
 pub returns-then-not-has : goal.returns-then-not-has
@@ -16,6 +16,7 @@ returns-then-not-has c lines keywords t is =
       firsts = t.firsts;
       followed = followed_more links lines keywords j t d later own (omega (arith, fits.some)) (omega (arith, fits.short, fits.narrow)) c.requires.0 c.with.result c.with.ensures;
       listed = listed_more links lines keywords j t d later own (omega (arith, fits.some)) (omega (arith, fits.short, fits.narrow)) c.requires.0 c.insert.new.self c.insert.ensures;
+      used = used_more links lines keywords j t d later own (omega (arith, fits.some)) (omega (arith, fits.short, fits.narrow)) c.requires.0 c.insert.new.self c.insert.ensures;
     }
 
 pub returns-else-not-has : goal.returns-else-not-has

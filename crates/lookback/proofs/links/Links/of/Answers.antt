@@ -1,11 +1,11 @@
-use Rattle.std.proofs.Common.{◌≡◌, ℕ, suc, ◌+◌, ◌<◌, List, [], ◌∷◌, ◌++◌, length, drop, get_or, sym, ap, ◌∙◌, subst, add-one, zero-add, length-append, arith}
+use Rattle.std.proofs.Common.{rules, ◌≡◌, ℕ, suc, ◌+◌, ◌<◌, List, [], ◌∷◌, ◌++◌, length, drop, get_or, sym, ap, ◌∙◌, subst, add-one, zero-add, length-append, arith}
 use Rattle.std.specs.List.{enumerate_from}
 use Rattle.std.proofs.lemmas.Iterator.{YieldsList-from_slice}
 use Rattle.std.proofs.lemmas.Iterator.Adapters.{YieldsList-from_skip}
 use Rattle.std.proofs.lemmas.Iterator.Consumers.{YieldsList-from_enumerate, YieldsList-turn, YieldsList-end}
 use Rattle.std.proofs.lemmas.List.FromFn.{length-enumerate_from, get_or-enumerate_from}
 use Rattle.std.proofs.lemmas.List.{get_or-replicate}
-use Rattle.std.proofs.lemmas.Bool.{and_left, le-ltb}
+use Rattle.std.proofs.lemmas.Bool.{and_left, both_ways, le-ltb}
 use Rattle.book.specs.declared.rows.LineRow.{LineRow}
 use Rattle.book.specs.declared.rows.KeywordRow.{KeywordRow}
 use Rattle.columns.specs.Marks.{mark, blank}
@@ -21,6 +21,7 @@ loop-before-init c = record {
   firsts = c.first_keywords.ensures;
   followed = λ d below k h. ap (λ x. mark x k) (get_or-replicate 128 d c.none.result blank below) ∙ c.none.ensures k ∙ sym (and_left _ _ (le-ltb (suc k) 1 (omega arith)));
   listed = λ k h o. absurd (let z : ⊥ = omega arith in z);
+  used = λ d m. absurd (both_ways _ (search rules) m);
 }
 
 -- a turn has the keyword behind the one that it counts

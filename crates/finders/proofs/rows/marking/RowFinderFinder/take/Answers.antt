@@ -2,7 +2,7 @@ use Rattle.std.proofs.Common.{◌-◌, ◌<◌, ◌≤◌, Bool, ◌&&◌, ◌||
 use Rattle.std.proofs.lemmas.Bool.{cases_lt, and_left}
 use Rattle.book.specs.Book.{all_cells}
 use Rattle.book.specs.Stored.{sealed_book}
-use Rattle.finders.specs.Places.{first_at, runs_at}
+use Rattle.finders.specs.Places.{marked}
 use Rattle.finders.specs.Runs.{passes}
 use Rattle.finders.proofs.Marks.{passes_past}
 use Rattle.finders.proofs.rows.marking.RowFinderFinder.take.Goals as goal
@@ -18,8 +18,8 @@ returns-clause-stands g c p =
     ⊎_elim
     (λ (h : p < length cs).
     c.move_on.ensures.runs p h
-    ∙ ap (λ xs. passes admits xs p && (first_at f.places p || (ltb 0 p && runs_at f.places (p - 1)))) all
-    ∙ ap (λ t. passes admits (all_cells b) p && (t || (ltb 0 p && runs_at f.places (p - 1)))) (f.begun p (omega arith)))
+    ∙ ap (λ xs. passes admits xs p && (marked f.firsts p || (ltb 0 p && marked f.runs (p - 1)))) all
+    ∙ ap (λ t. passes admits (all_cells b) p && (t || (ltb 0 p && marked f.runs (p - 1)))) (f.begun p (omega arith)))
     (λ (h : length cs ≤ p).
     c.move_on.ensures.rest p h ∙ f.still p (omega (arith, ap length all))
     ∙ sym (and_left (passes admits (all_cells b) p) _ (passes_past admits (all_cells b) p (omega (arith, ap length all)))))

@@ -3,7 +3,7 @@ use Rattle.std.proofs.Math.Logic.{∥∥₁_map}
 use Rattle.book.specs.Rows.{line_rows}
 use Rattle.history.specs.Calls.{clear, samples}
 use Rattle.bench.proofs.Kept.{fresh, cleared}
-use Rattle.bench.proofs.benches.Bench.clear.Goals as goal
+use Rattle.bench.proofs.benches.Bench.forget.Goals as goal
 
 pub invariant_of-self : goal.invariant_of-self
 invariant_of-self g c = record {
