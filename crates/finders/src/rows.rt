@@ -11,7 +11,7 @@ pub mod marking;
 mod places;
 
 /// A finder that keeps of each place whether a run stands there.
-// Two arrays, since at each symbol and at a clear the runs alone are written, all of them alike.
+// Two arrays, since a symbol and a clear write the runs alone, and a clear writes them all alike.
 #[derive(Drop)]
 pub struct RowFinder<'a, C> {
     book: SealedBook<'a, C>,

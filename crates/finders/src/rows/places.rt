@@ -29,8 +29,8 @@ pub(crate) fn first_places<C: Cell>(book: &SealedBook<'_, C>) -> [bool; PLACES]
     firsts
 }
 
-// Whether a run that may reach a cell stands there after the symbol. Both are asked, since a branch for each place would
-// cost more than it saves.
+// Whether a run that may reach a cell stands there after the symbol. Both are asked, since with letters a branch for each
+// place costs more than it saves.
 fn goes_on<C: Cell>(cell: &C, symbol: C::Symbol, reached: bool) -> bool
     ensures { result ≡ (C.Cell.admits cell.now symbol && reached) }
 {
